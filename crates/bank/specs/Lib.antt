@@ -1,0 +1,4 @@
+pub mod Rows
+pub mod Pulling
+pub mod Copy
+pub mod Laws

@@ -1,0 +1,3 @@
+pub mod Store
+pub mod Rule
+pub mod Laws
