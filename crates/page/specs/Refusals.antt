@@ -41,6 +41,13 @@ faultOf l w = record { refusal = w; layer = l; slot = Nowhere; page = Nowhere; g
 abbrev pub onSlot : ℕ → Fault → Fault
 onSlot s f = record { refusal = f .refusal; layer = f .layer; slot = Some s; page = f .page; group = f .group; missing = f .missing; line = f .line }
 
+abbrev pub ofPage : ℕ → Fault → Fault
+ofPage p f = record { refusal = f .refusal; layer = f .layer; slot = f .slot; page = Some p; group = f .group; missing = f .missing; line = f .line }
+
+-- a group, with the set of its members that were missing
+abbrev pub inGroup : ℕ → ℕ → Fault → Fault
+inGroup g m f = record { refusal = f .refusal; layer = f .layer; slot = f .slot; page = f .page; group = Some g; missing = Some m; line = f .line }
+
 abbrev pub onLine : ℕ → Fault → Fault
 onLine n f = record { refusal = f .refusal; layer = f .layer; slot = f .slot; page = f .page; group = f .group; missing = f .missing; line = Some n }
 

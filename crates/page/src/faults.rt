@@ -1,4 +1,4 @@
-ghost use Rattle.page.specs.Refusals.{faultOf, layerWord, named, onLine, onSlot, sameRefusal};
+ghost use Rattle.page.specs.Refusals.{faultOf, inGroup, layerWord, named, ofPage, onLine, onSlot, sameRefusal};
 ghost use Rattle.std.specs.declared.option.Option.the-variants.{Some};
 ghost use mathlib.Core.Path.{_≡_};
 use std::error::Error;
@@ -116,6 +116,27 @@ impl Fault {
     {
         Fault {
             slot: Some(slot),
+            ..self
+        }
+    }
+
+    // The same fault, of a page.
+    pub fn of_page(self, page: usize) -> Fault
+        ensures { λ r. ⌜ r ≡ ofPage page self ⌝ }
+    {
+        Fault {
+            page: Some(page),
+            ..self
+        }
+    }
+
+    // The same fault, in a group with these members missing.
+    pub fn in_group(self, group: usize, missing: u16) -> Fault
+        ensures { λ r. ⌜ r ≡ inGroup group missing self ⌝ }
+    {
+        Fault {
+            group: Some(group),
+            missing: Some(missing),
             ..self
         }
     }

@@ -21,11 +21,11 @@ impl Page {
         Page(bytes_from(value))
     }
 
-    // Adds a page into this one: the exclusive or, byte by byte.
-    pub fn add(&mut self, page: &Page)
-        ensures { λ _. ⌜ now (self .exit) .0 ≡ xorPage (now (self .entry) .0) (now (page .entry) .0) ⌝ }
+    // Adds a page's bytes into this one: the exclusive or, byte by byte.
+    pub fn add(&mut self, bytes: &[u8; PAGE_SIZE])
+        ensures { λ _. ⌜ now (self .exit) .0 ≡ xorPage (now (self .entry) .0) (now (bytes .entry)) ⌝ }
     {
-        add_bytes(&mut self.0, &page.0);
+        add_bytes(&mut self.0, bytes);
     }
 }
 

@@ -1,0 +1,10 @@
+pub mod Tables
+pub mod Choices
+pub mod Rule
+pub mod Faults
+pub mod Reading
+pub mod Paging
+pub mod Order
+pub mod Owners
+pub mod Pigeonhole
+pub mod Worked

@@ -1,0 +1,9 @@
+pub mod AskingLaws
+pub mod CallWays
+pub mod CleaningWays
+pub mod Fitting
+pub mod MakingLaws
+pub mod PageinLaws
+pub mod PageoutWays
+pub mod PlacingLaws
+pub mod ReadLaws

@@ -1,0 +1,4 @@
+pub mod Making
+pub mod Order
+pub mod Places
+pub mod Reads
