@@ -1,8 +1,7 @@
--- A mirror whose halves were asked followed its rule, and is in good order.
+-- A mirror whose halves were asked is in good order.
 use Prim.Native.Nat.{ℕ, _<_}
 use mathlib.Core.Path.{_≡_, refl, ap, subst, _∙_}
 use mathlib.Core.List.{List}
-use native.Mathlib.Omega.{arith}
 use lib.ListN.{length}
 use Rattle.std.specs.declared.result.Result.{Result}
 use Rattle.std.specs.declared.result.Result.the-variants.{Ok, Err}
@@ -13,22 +12,15 @@ use Rattle.server.specs.Meaning.{Meaning}
 use Rattle.server.specs.Calls.{Call, toPut, toGet, toFree, slotOf, lengthOf, Answer}
 use Rattle.server.specs.Steps.{Lawful}
 use Rattle.mirror.specs.Joined.{joined, Paired}
-use Rattle.mirror.specs.Rule.{Rule, Reply, refusal, eitherDone, noneOrGone, secondSays, Asked, Steps}
+use Rattle.mirror.specs.Rule.{Rule, Reply, refusal, eitherDone, noneOrGone, secondSays, Asked}
 use Rattle.mirror.specs.Laws.{asked-meets}
 
 module _ {X Y : Type 0} {mx : X → Meaning} {ox : X → Type 0} {rx : Rule X} {my : Y → Meaning} {oy : Y → Type 0} {ry : Rule Y} (lx : Lawful mx ox rx) (ly : Lawful my oy ry) (x x′ : X) (y y′ : Y) (o : Paired (ox x) (oy y) (mx x) (my y)) where
   abbrev Follows : (c : Call) → Answer c → Type 0
-  Follows c a = Paired (ox x′) (oy y′) (mx x′) (my y′) × Steps rx ry (joined (mx x) (my y) .size) x y c a x′ y′
+  Follows c a = Paired (ox x′) (oy y′) (mx x′) (my y′) × Asked rx ry x y c a x′ y′
 
   asks : (c : Call) (a : Answer c) → lengthOf c ≡ 512 → slotOf c < joined (mx x) (my y) .size → Asked rx ry x y c a x′ y′ → Follows c a
-  asks c a l i t = (
-    asked-meets lx ly x x′ y y′ o c a (l, i) t .0,
-    record {
-      long = λ bad. absurd (bad l);
-      past = λ _ p. let z : ⊥ = omega arith in absurd z;
-      fine = λ _ _. t;
-    },
-  )
+  asks c a l i t = (asked-meets lx ly x x′ y y′ o c a (l, i) t .0, t)
 
   module _ (s : ℕ) (i : s < joined (mx x) (my y) .size) where
     pub put-asks : (p : List ℕ) (f : Fault) (a b d : Reply) → length p ≡ 512 → rx x (toPut s p) b x′ → ry y (toPut s p) d y′ → f ≡ refusal Gone s → a ≡ eitherDone f b d → Follows (toPut s p) a

@@ -1,13 +1,16 @@
 //! Two page servers that hold each page twice.
-ghost use Prim.Native.Nat.{min};
+ghost use Prim.Native.Nat.{_<_, min};
 ghost use Rattle.mirror.specs.Joined.{Ordered, means};
 ghost use Rattle.mirror.specs.Laws.{mirror-laws};
 ghost use Rattle.mirror.specs.Pulling.{BroughtBack, CameBack, Fallen, Fell, LossAtMost, Moved, ReturnAtMost};
-ghost use Rattle.mirror.specs.Rule.{Stepped, eitherDone, noneOrGone};
+ghost use Rattle.mirror.specs.Rule.{Asked, Stepped, eitherDone, noneOrGone};
 ghost use Rattle.mirror.specs.Sweep.{Swept};
 ghost use Rattle.page.specs.Refusals.{faultOf, onSlot};
+ghost use Rattle.mirror.specs.declared.Half.the-variants.{First, Second};
 ghost use Rattle.page.specs.declared.faults.Layer.the-variants.{Mirror as InMirror};
+ghost use Rattle.server.specs.Calls.{Left, filled, toFree, toGet, toPut};
 ghost use Rattle.server.specs.Meaning.{Empty};
+ghost use lib.ListN.{length};
 ghost use mathlib.Core.Path.{_≡_};
 use page::Fault;
 use page::Layer;
@@ -83,6 +86,42 @@ impl<P: PageServer, Q: PageServer> Mirror<P, Q> {
         empty(&mut second);
         Mirror { first, second }
     }
+
+    // The mirror's own tests are passed, and both halves are asked.
+    fn put_both(&mut self, slot: usize, page: &[u8]) -> Result<(), Fault>
+        requires { ⌜ Ordered (P·PageServer .order) (Q·PageServer .order) (P·PageServer .meaning) (Q·PageServer .meaning) (now self) ⌝ ∗ ⌜ length (now page) ≡ 512 ⌝ ∗ ⌜ slot < means (P·PageServer .meaning) (Q·PageServer .meaning) (now self) .size ⌝ }
+        ensures order { λ _. ⌜ Ordered (P·PageServer .order) (Q·PageServer .order) (P·PageServer .meaning) (Q·PageServer .meaning) (now (self .exit)) ⌝ }
+        ensures asked { λ r. ⌜ Asked (P·PageServer .steps) (Q·PageServer .steps) (now (self .entry) .first) (now (self .entry) .second) (toPut slot (now (page .entry))) r (now (self .exit) .first) (now (self .exit) .second) ⌝ }
+    {
+        let one = self.first.put(slot, page);
+        let two = self.second.put(slot, page);
+        either_done(one, two, refused(Refusal::Gone, slot))
+    }
+
+    fn get_either(&mut self, slot: usize, buffer: &mut [u8]) -> Result<(), Fault>
+        requires { ⌜ Ordered (P·PageServer .order) (Q·PageServer .order) (P·PageServer .meaning) (Q·PageServer .meaning) (now self) ⌝ ∗ ⌜ length (now buffer) ≡ 512 ⌝ ∗ ⌜ slot < means (P·PageServer .meaning) (Q·PageServer .meaning) (now self) .size ⌝ }
+        ensures order { λ _. ⌜ Ordered (P·PageServer .order) (Q·PageServer .order) (P·PageServer .meaning) (Q·PageServer .meaning) (now (self .exit)) ⌝ }
+        ensures asked { λ r. ⌜ Asked (P·PageServer .steps) (Q·PageServer .steps) (now (self .entry) .first) (now (self .entry) .second) (toGet slot (length (now (buffer .entry)))) (filled r (now (buffer .exit))) (now (self .exit) .first) (now (self .exit) .second) ⌝ }
+        ensures left { λ r. ⌜ Left r (now (buffer .entry)) (now (buffer .exit)) ⌝ }
+    {
+        let Err(one) = self.first.get(slot, buffer) else {
+            return Ok(());
+        };
+        let Err(two) = self.second.get(slot, buffer) else {
+            return Ok(());
+        };
+        Err(refused(none_or_gone(one, two), slot))
+    }
+
+    fn free_both(&mut self, slot: usize) -> Result<(), Fault>
+        requires { ⌜ Ordered (P·PageServer .order) (Q·PageServer .order) (P·PageServer .meaning) (Q·PageServer .meaning) (now self) ⌝ ∗ ⌜ slot < means (P·PageServer .meaning) (Q·PageServer .meaning) (now self) .size ⌝ }
+        ensures order { λ _. ⌜ Ordered (P·PageServer .order) (Q·PageServer .order) (P·PageServer .meaning) (Q·PageServer .meaning) (now (self .exit)) ⌝ }
+        ensures asked { λ r. ⌜ Asked (P·PageServer .steps) (Q·PageServer .steps) (now (self .entry) .first) (now (self .entry) .second) (toFree slot) r (now (self .exit) .first) (now (self .exit) .second) ⌝ }
+    {
+        let _ = self.first.free(slot);
+        let _ = self.second.free(slot);
+        Ok(())
+    }
 }
 
 pub impl<P: PageServer, Q: PageServer> PageServer for Mirror<P, Q> as MirrorServer {
@@ -105,9 +144,7 @@ pub impl<P: PageServer, Q: PageServer> PageServer for Mirror<P, Q> as MirrorServ
         if slot >= self.size() {
             return Err(refused(Refusal::Range, slot));
         }
-        let one = self.first.put(slot, page);
-        let two = self.second.put(slot, page);
-        either_done(one, two, refused(Refusal::Gone, slot))
+        self.put_both(slot, page)
     }
 
     fn get(&mut self, slot: usize, buffer: &mut [u8]) -> Result<(), Fault> {
@@ -117,22 +154,14 @@ pub impl<P: PageServer, Q: PageServer> PageServer for Mirror<P, Q> as MirrorServ
         if slot >= self.size() {
             return Err(refused(Refusal::Range, slot));
         }
-        let Err(one) = self.first.get(slot, buffer) else {
-            return Ok(());
-        };
-        let Err(two) = self.second.get(slot, buffer) else {
-            return Ok(());
-        };
-        Err(refused(none_or_gone(one, two), slot))
+        self.get_either(slot, buffer)
     }
 
     fn free(&mut self, slot: usize) -> Result<(), Fault> {
         if slot >= self.size() {
             return Err(refused(Refusal::Range, slot));
         }
-        let _ = self.first.free(slot);
-        let _ = self.second.free(slot);
-        Ok(())
+        self.free_both(slot)
     }
 }
 
@@ -162,8 +191,8 @@ impl<P: Pullable, Q: Pullable> Mirror<P, Q> {
         ensures meets { λ _. ⌜ LossAtMost (means (P·PageServer .meaning) (Q·PageServer .meaning) (now (self .entry))) (means (P·PageServer .meaning) (Q·PageServer .meaning) (now (self .exit))) ⌝ }
     {
         match half {
-            Half::First => self.first.fall(),
-            Half::Second => self.second.fall(),
+            Half::First => self.fall_first(),
+            Half::Second => self.fall_second(),
         }
     }
 
@@ -175,8 +204,44 @@ impl<P: Pullable, Q: Pullable> Mirror<P, Q> {
         ensures meets { λ _. ⌜ ReturnAtMost (means (P·PageServer .meaning) (Q·PageServer .meaning) (now (self .entry))) (means (P·PageServer .meaning) (Q·PageServer .meaning) (now (self .exit))) ⌝ }
     {
         match half {
-            Half::First => self.first.back(),
-            Half::Second => self.second.back(),
+            Half::First => self.back_first(),
+            Half::Second => self.back_second(),
         }
+    }
+
+    fn fall_first(&mut self)
+        requires { ⌜ Ordered (P·PageServer .order) (Q·PageServer .order) (P·PageServer .meaning) (Q·PageServer .meaning) (now self) ⌝ }
+        ensures order { λ _. ⌜ Ordered (P·PageServer .order) (Q·PageServer .order) (P·PageServer .meaning) (Q·PageServer .meaning) (now (self .exit)) ⌝ }
+        ensures moved { λ _. ⌜ Moved First (Fell (P·PageServer .meaning) (P·Pullable .falls)) (Fell (Q·PageServer .meaning) (Q·Pullable .falls)) (now (self .entry)) (now (self .exit)) ⌝ }
+        ensures meets { λ _. ⌜ LossAtMost (means (P·PageServer .meaning) (Q·PageServer .meaning) (now (self .entry))) (means (P·PageServer .meaning) (Q·PageServer .meaning) (now (self .exit))) ⌝ }
+    {
+        self.first.fall()
+    }
+
+    fn fall_second(&mut self)
+        requires { ⌜ Ordered (P·PageServer .order) (Q·PageServer .order) (P·PageServer .meaning) (Q·PageServer .meaning) (now self) ⌝ }
+        ensures order { λ _. ⌜ Ordered (P·PageServer .order) (Q·PageServer .order) (P·PageServer .meaning) (Q·PageServer .meaning) (now (self .exit)) ⌝ }
+        ensures moved { λ _. ⌜ Moved Second (Fell (P·PageServer .meaning) (P·Pullable .falls)) (Fell (Q·PageServer .meaning) (Q·Pullable .falls)) (now (self .entry)) (now (self .exit)) ⌝ }
+        ensures meets { λ _. ⌜ LossAtMost (means (P·PageServer .meaning) (Q·PageServer .meaning) (now (self .entry))) (means (P·PageServer .meaning) (Q·PageServer .meaning) (now (self .exit))) ⌝ }
+    {
+        self.second.fall()
+    }
+
+    fn back_first(&mut self) -> Result<(), Fault>
+        requires { ⌜ Ordered (P·PageServer .order) (Q·PageServer .order) (P·PageServer .meaning) (Q·PageServer .meaning) (now self) ⌝ }
+        ensures order { λ _. ⌜ Ordered (P·PageServer .order) (Q·PageServer .order) (P·PageServer .meaning) (Q·PageServer .meaning) (now (self .exit)) ⌝ }
+        ensures moved { λ r. ⌜ Moved First (CameBack (P·PageServer .meaning) (P·Pullable .backs) r) (CameBack (Q·PageServer .meaning) (Q·Pullable .backs) r) (now (self .entry)) (now (self .exit)) ⌝ }
+        ensures meets { λ _. ⌜ ReturnAtMost (means (P·PageServer .meaning) (Q·PageServer .meaning) (now (self .entry))) (means (P·PageServer .meaning) (Q·PageServer .meaning) (now (self .exit))) ⌝ }
+    {
+        self.first.back()
+    }
+
+    fn back_second(&mut self) -> Result<(), Fault>
+        requires { ⌜ Ordered (P·PageServer .order) (Q·PageServer .order) (P·PageServer .meaning) (Q·PageServer .meaning) (now self) ⌝ }
+        ensures order { λ _. ⌜ Ordered (P·PageServer .order) (Q·PageServer .order) (P·PageServer .meaning) (Q·PageServer .meaning) (now (self .exit)) ⌝ }
+        ensures moved { λ r. ⌜ Moved Second (CameBack (P·PageServer .meaning) (P·Pullable .backs) r) (CameBack (Q·PageServer .meaning) (Q·Pullable .backs) r) (now (self .entry)) (now (self .exit)) ⌝ }
+        ensures meets { λ _. ⌜ ReturnAtMost (means (P·PageServer .meaning) (Q·PageServer .meaning) (now (self .entry))) (means (P·PageServer .meaning) (Q·PageServer .meaning) (now (self .exit))) ⌝ }
+    {
+        self.second.back()
     }
 }

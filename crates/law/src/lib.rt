@@ -1,0 +1,1 @@
+//! What the log's rules come to over servers that lose pages.
