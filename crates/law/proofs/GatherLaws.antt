@@ -14,10 +14,10 @@ use Rattle.server.specs.Meaning.{holds}
 use Rattle.log.specs.Rule.{Runs}
 use Rattle.log.specs.Tables.{weight}
 use Rattle.log.specs.Reading.{Finding, Gathered, added, refusers, asking}
-use Rattle.law.specs.Rows.{Row}
+use Rattle.law.specs.Rows.{Row, slots}
 use Rattle.law.specs.Missing.{lacking}
 use Rattle.law.proofs.ListLaws.{Apart}
-use Rattle.law.proofs.Mode.{slots, Shrunk, shrunk-then, heldOf, Fit, Mode, Whole, xorOver}
+use Rattle.law.proofs.Mode.{Shrunk, shrunk-then, heldOf, Fit, Mode, Whole, xorOver}
 use Rattle.law.proofs.SolveLaws.{weights, xor-none, xor-whole}
 
 refusers-lacking : (m w : ℕ) (a : Result (List ℕ) Fault) → refusers m w a ≡ m + lacking w (heldOf a)

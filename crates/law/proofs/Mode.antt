@@ -31,10 +31,6 @@ pub loosely : (L : Type 0) (x y : Held) → L → SameOrNothing x y → Still L 
 loosely L x y l (inl e) = inl e
 loosely L x y l (inr e) = inr (l, e)
 
--- what the servers hold in one slot, by their numbers
-abbrev pub slots : Row → ℕ → ℕ → Held
-slots b g k = b k .held g
-
 -- every slot of the row as it was, or empty on a server that may lose
 abbrev pub Shrunk : (ℕ → Type 0) → Row → Row → Type 0
 Shrunk lose b e = (k s : ℕ) → Still (lose k) (b k .held s) (e k .held s)

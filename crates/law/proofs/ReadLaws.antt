@@ -14,18 +14,14 @@ use Rattle.log.specs.declared.records.Tables.{Tables}
 use Rattle.log.specs.Tables.{others, weight}
 use Rattle.log.specs.Rule.{give, Runs}
 use Rattle.log.specs.Reading.{Finding, Gathered, kept, gather, Reading, found, missed, restored, orRestored, read}
-use Rattle.law.specs.Rows.{Row}
+use Rattle.law.specs.Rows.{Row, slots}
 use Rattle.law.specs.Missing.{membersOn, Missing, missingSet}
+use Rattle.law.specs.Invariant.{TwoMissing}
 use Rattle.law.proofs.ListLaws.{all-both, all-but, all-at, apart-but}
 use Rattle.law.proofs.RuleLaws.{through}
 use Rattle.law.proofs.SolveLaws.{weights, solve, none-missed, some-missed, own-missed, weight-pos, weights-below}
 use Rattle.law.proofs.GatherLaws.{gathers}
-use Rattle.law.proofs.Mode.{Still, none-still, still-then, slots, Shrunk, shrunk-then, heldOf, Fit, Mode, GroupOk}
-
--- of a group's first n members, whose slots hold h, the one at a position is missing, and another one
-pub record TwoMissing (n : ℕ) (h : ℕ → Held) (i : ℕ) : Type 0 where
-  pub own : (i < n) × (h i ≡ nothing)
-  pub other : (k : ℕ) × (k ≡ i → ⊥) × ((k < n) × (h k ≡ nothing))
+use Rattle.law.proofs.Mode.{Still, none-still, still-then, Shrunk, shrunk-then, heldOf, Fit, Mode, GroupOk}
 
 pub held-is : (Y : Type 0) (x : List ℕ) (o : Held) → Still Y (holds x) o → (o ≡ nothing → ⊥) → o ≡ holds x
 held-is Y x o (inl e) n = e
@@ -107,7 +103,7 @@ module _ (M : Mode) where
           set = λ z. omega (arith, is, own-missed w (slots e g) i n lt z, weights-below v e g n);
         }
 
-    restored-ok : (b e : Row) (ns : List (Finding × Row)) (r : Gathered) → Others v g i c b ns r e → b i .held g ≡ nothing → ReadOk v g i (c i) e (restored v i r)
+    pub restored-ok : (b e : Row) (ns : List (Finding × Row)) (r : Gathered) → Others v g i c b ns r e → b i .held g ≡ nothing → ReadOk v g i (c i) e (restored v i r)
     restored-ok b e ns r o z =
         let none : e i .held g ≡ nothing = ap (λ x. x .held g) (o .own) ∙ z in
         elim (cases-eq (r .missing) 0) [

@@ -14,10 +14,10 @@ use Rattle.page.proofs.PageLaws.{xor-commutes, xor-associates, xor-zeros, xor-t
 use Rattle.server.specs.Meaning.{Held, nothing, holds}
 use Rattle.log.specs.declared.records.Tables.{Tables}
 use Rattle.log.specs.Tables.{weight}
-use Rattle.law.specs.Rows.{Row}
+use Rattle.law.specs.Rows.{Row, slots}
 use Rattle.law.specs.Missing.{lacking, missingBelow}
 use Rattle.law.proofs.ListLaws.{over, but, over-but, over-last}
-use Rattle.law.proofs.Mode.{slots, Whole, xorOver}
+use Rattle.law.proofs.Mode.{Whole, xorOver}
 
 pub xor-swap : (x y z : List ℕ) → xorPage x (xorPage y z) ≡ xorPage y (xorPage x z)
 xor-swap x y z = sym (xor-associates x y z) ∙ ap (λ v. xorPage v z) (xor-commutes x y) ∙ xor-associates y x z
@@ -28,7 +28,7 @@ xor-whole x y h k = xor-length x y (h ∙ sym k) ∙ k
 pub xor-none : (x : List ℕ) → Whole x → xorPage x zeros ≡ x
 xor-none x h = xor-commutes x zeros ∙ xor-zeros pageSize x h
 
-over-whole : (c : ℕ → List ℕ) (ks : List ℕ) → ((k : ℕ) → Whole (c k)) → Whole (xorOver c ks)
+pub over-whole : (c : ℕ → List ℕ) (ks : List ℕ) → ((k : ℕ) → Whole (c k)) → Whole (xorOver c ks)
 over-whole c [] h = length-replicate {A = ℕ} pageSize 0
 over-whole c (k ∷ ks) h = xor-whole (c k) (xorOver c ks) (h k) (over-whole c ks h)
 

@@ -1,2 +1,4 @@
 pub mod Rows
 pub mod Missing
+pub mod Book
+pub mod Invariant
