@@ -18,8 +18,7 @@ use Rattle.parity_log.proofs.SoundLaws.{page_room, state_room, open_below, close
 use Rattle.law.specs.Rows.{Row, slots}
 use Rattle.law.specs.Missing.{members_on}
 use Rattle.law.specs.Book.{Entry, has, lost, Book, written}
-use Rattle.law.specs.Findings.{Right}
-use Rattle.law.proofs.PageStates.{TwoMissing, PageOk}
+use Rattle.law.specs.Invariant.{TwoMissing, Right, PageOk}
 use Rattle.law.proofs.ReadLaws.{shrunk_group, Group}
 use Rattle.law.proofs.Invariant.{Last, written_here, written_there, Carries, carried, carries_shrunk, carries_put, Holds, Inv}
 use Rattle.law.proofs.GroupLaws.{group_none, group_put, group_close}

@@ -18,9 +18,7 @@ use Rattle.parity_log.proofs.OpeningLaws.{next_free_lem, open_next, open_last}
 use Rattle.parity_log.proofs.RoundLaws.{count_some, start_below, not_round}
 use Rattle.parity_log.proofs.SoundLaws.{open_cases, open_is}
 use Rattle.law.specs.Rows.{Row}
-use Rattle.law.specs.Book.{has, lost, Book, written, found}
-use Rattle.law.specs.Findings.{latest}
-use Rattle.law.proofs.PageStates.{right_with}
+use Rattle.law.specs.Book.{has, lost, Book, written, found, latest}
 use Rattle.law.proofs.RuleLaws.{through}
 use Rattle.law.proofs.ReadLaws.{ReadOk, read_law, two_seen}
 use Rattle.law.proofs.Invariant.{Last, written_here, written_there, page_booked, Inv, members_on_lem, shrunk_inv}
@@ -98,7 +96,7 @@ module _ (M : Mode) where
           rw (z, x, y, u) (record {
             shape = refl;
             cleaning = clean_lose v g h i p s cleaning lt at;
-            ok = (c, lose_inv M v b b k l c inv cleaning.sound (written p lost k) f page.0 (right_with f b ok) (written_here p lost k) (λ j ne. written_there p j lost k ne));
+            ok = (c, lose_inv M v b b k l c inv cleaning.sound (written p lost k) f page.0 (record { two = ok.0; set = ok.1 }) (written_here p lost k) (λ j ne. written_there p j lost k ne));
             news = inr (two_seen M h _ _ (c h) _ i (inv.holds.group h) ok.0);
           })
 

@@ -15,8 +15,8 @@ use Rattle.parity_log.specs.Rule.{give, Runs}
 use Rattle.parity_log.proofs.Keeping.{free_leaves}
 use Rattle.parity_log.proofs.SoundLaws.{puts_nowhere, sound_entered}
 use Rattle.law.specs.Rows.{Row}
-use Rattle.law.specs.Book.{Entry, nothing, Book, written, found, heard}
-use Rattle.law.specs.Findings.{latest, FoundAt}
+use Rattle.law.specs.Book.{Entry, nothing, Book, written, found, heard, latest}
+use Rattle.law.specs.Invariant.{FoundAt}
 use Rattle.law.proofs.RuleLaws.{through}
 use Rattle.law.proofs.Invariant.{Last, written_here, written_there, Inv}
 use Rattle.law.proofs.FaultLaws.{Plain, plain_lost, Objects, objects}

@@ -13,7 +13,7 @@ use Rattle.parity_log.specs.Reading.{Finding}
 use Rattle.law.specs.Rows.{Row, slots}
 use Rattle.law.specs.Missing.{members_on}
 use Rattle.law.specs.Book.{Entry, has, lost, Book, written}
-use Rattle.law.proofs.PageStates.{TwoMissing, PageOk}
+use Rattle.law.specs.Invariant.{TwoMissing, PageOk}
 use Rattle.law.proofs.ReadLaws.{still_two, Group, shrunk_keeps}
 use Rattle.law.proofs.Mode.{Still, Shrunk, Fit, Mode}
 

@@ -1,4 +1,3 @@
-pub mod CalmLaws
 pub mod ChangeLaws
 pub mod CleaningLaw
 pub mod FaultLaws
@@ -7,19 +6,13 @@ pub mod FreshLaw
 pub mod GatherLaws
 pub mod GroupLaws
 pub mod Invariant
-pub mod Lawful
 pub mod ListLaws
 pub mod Mode
-pub mod PageStates
 pub mod PageinLaw
 pub mod PageoutLaw
 pub mod PlaceLaws
 pub mod ReadLaws
-pub mod RebuildLaw
 pub mod ReleaseLaws
 pub mod RuleLaws
-pub mod RunLaws
-pub mod SingleLaw
 pub mod SolveLaws
 pub mod StepLaws
-pub mod VisitLaw

@@ -11,9 +11,8 @@ use Rattle.parity_log.specs.Order.{Sound}
 use Rattle.parity_log.specs.Rule.{Runs}
 use Rattle.parity_log.specs.Reading.{Finding, Reading, found as gives, missed, read, delivered, pagein_from, pagein_unless, pagein}
 use Rattle.law.specs.Rows.{Row}
-use Rattle.law.specs.Book.{has, nothing, lost, Book, written, found, heard_page}
-use Rattle.law.specs.Findings.{latest, FoundAt}
-use Rattle.law.proofs.PageStates.{right_with, PageOk}
+use Rattle.law.specs.Book.{has, nothing, lost, Book, written, found, heard_page, latest}
+use Rattle.law.specs.Invariant.{FoundAt, PageOk}
 use Rattle.law.proofs.RuleLaws.{through}
 use Rattle.law.proofs.ReadLaws.{ReadOk, read_law, two_seen}
 use Rattle.law.proofs.Invariant.{Last, Inv, written_here, written_again, page_booked, members_on_lem, shrunk_inv, same_book, found_inv}
@@ -44,7 +43,7 @@ module _ (M : Mode) where
         let finds = two_seen M g _ _ (c g) _ i (inv'.holds.group g) ok.0 in
         rw (z, u, y, w) (record {
           inv = same_book M v m (written p lost k) _ _ c (λ q. written_again p q lost (written p lost k) (written_here p lost k)) (found_inv M v m k l c f inv' here ok.0);
-          said = (λ _. (g, s, refl, ((f, m), rw (eq-eqb p p refl), refl, refl, right_with f m ok), inr finds), λ y. let q : ◌≡◌ {A = ℕ} 0 1 = cc in absurd (omega arith));
+          said = (λ _. (g, s, refl, ((f, m), rw (eq-eqb p p refl), refl, refl, record { two = ok.0; set = ok.1 }), inr finds), λ y. let q : ◌≡◌ {A = ℕ} 0 1 = cc in absurd (omega arith));
           news = inr finds;
         })
 

@@ -18,7 +18,7 @@ use Rattle.parity_log.proofs.Keeping.{place_leaves, release_settles, release_ope
 use Rattle.parity_log.proofs.SoundLaws.{page_room, page_below, open_below}
 use Rattle.law.specs.Rows.{Row, slots}
 use Rattle.law.specs.Book.{has, lost, Book, written}
-use Rattle.law.proofs.PageStates.{right_with}
+use Rattle.law.specs.Invariant.{Right}
 use Rattle.law.proofs.RuleLaws.{through}
 use Rattle.law.proofs.ReadLaws.{ReadOk, others_law, restored_ok, two_seen}
 use Rattle.law.proofs.Invariant.{Last, written_here, written_there, Inv, members_on_lem, shrunk_inv}
@@ -68,7 +68,7 @@ module _ (M : Mode) where
     judged_law m (missed s) inv ok ns a e run =
         let sound = settled.sound in
         let f : Finding = record { page = p; group = g; position = i; set = s; tables = v } in
-        let right = right_with f m ok in
+        let right : Right f m = record { two = ok.0; set = ok.1 } in
         let lt = page_below v sound p g i here in
         let v₁ = with_page v p (Lost g s) in
         let k₁ = written p lost (written p lost k) in

@@ -9,7 +9,7 @@ use Rattle.parity_log.specs.Rule.{give, Runs}
 use Rattle.parity_log.specs.Reading.{Finding, Gathered, kept, gather, Reading, found, missed, restored, or_restored, read}
 use Rattle.law.specs.Rows.{Row, slots}
 use Rattle.law.specs.Missing.{members_on, Missing, missing_set}
-use Rattle.law.proofs.PageStates.{TwoMissing}
+use Rattle.law.specs.Invariant.{TwoMissing}
 use Rattle.law.proofs.ListLaws.{all_both, all_but, all_at, apart_but}
 use Rattle.law.proofs.RuleLaws.{through}
 use Rattle.law.proofs.SolveLaws.{weights, solve, none_missed, some_missed, own_missed, weight_pos, weights_below}

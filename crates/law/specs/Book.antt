@@ -1,5 +1,5 @@
 -- The book of a run: what was last written out of each page, as the answers and the findings say.
-use Rattle.std.specs.Prelude.{ℕ, cond, List, [], ◌∷◌, Ok, Err, Result, ◌==◌}
+use Rattle.std.specs.Prelude.{ℕ, cond, List, [], ◌∷◌, Some, Ok, Err, Option, Result, ◌==◌}
 use Rattle.page.specs.declared.faults.Fault.{Fault}
 use Rattle.page.specs.declared.faults.Refusal.TheVariants.{Lost}
 use Rattle.page.specs.Refusals.{same_refusal}
@@ -36,3 +36,8 @@ heard p e (Err f) b = refused p f b
 abbrev pub heard_page : ℕ → Result (List ℕ) Fault → Book → Book
 heard_page p (Ok x) b = b
 heard_page p (Err f) b = refused p f b
+
+-- the finding by which a page was last found lost, with the row at that moment
+abbrev pub latest : ℕ → List (Finding × Row) → Option (Finding × Row) → Option (Finding × Row)
+latest p [] o = o
+latest p (f ∷ fs) o = latest p fs (cond (f.0.page == p) (Some f) o)

@@ -19,9 +19,9 @@ use Rattle.parity_log.proofs.ChangesLaws.{changes_place, changes_lose}
 use Rattle.parity_log.proofs.CleaningLaws.{clean_group, clean_page}
 use Rattle.parity_log.proofs.OpeningLaws.{open_last}
 use Rattle.parity_log.proofs.RuleLaws.{Leads, leads_bind, leads_give, ends_bind, ends_give, ends_note}
-use Rattle.members.specs.Reads.{Limited}
+use Rattle.pager.specs.Reads.{Limited}
 use Rattle.pager.specs.Places.{placed_as}
-use Rattle.members.proofs.AskingLaws.{span_more, span_none}
+use Rattle.pager.proofs.AskingLaws.{span_more, span_none}
 
 -- what the numbers of sound tables are bounded by
 pub sound_limits : (v : Tables) → Sound v → Limited v

@@ -1,4 +1,4 @@
-pub mod Admitting
+pub mod AskingLaws
 pub mod CallWays
 pub mod CleaningWays
 pub mod Fitting
@@ -6,6 +6,4 @@ pub mod MakingLaws
 pub mod PageinLaws
 pub mod PageoutWays
 pub mod PlacingLaws
-pub mod PullLaws
-pub mod Seen
-pub mod StepWays
+pub mod ReadLaws

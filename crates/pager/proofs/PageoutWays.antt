@@ -18,7 +18,7 @@ use Rattle.parity_log.proofs.Bounds.{shape_bounds, capacity_fits}
 use Rattle.parity_log.proofs.Keeping.{lose_leaves, place_leaves, release_settles, release_open, release_same, close_settles}
 use Rattle.parity_log.proofs.RuleLaws.{ends_bind, ends_give, ends_note}
 use Rattle.parity_log.proofs.SoundLaws.{positions_within}
-use Rattle.members.specs.Reads.{gathered}
+use Rattle.pager.specs.Reads.{gathered}
 use Rattle.pager.specs.Places.{Fit, placed_as}
 
 -- a page that is out is out at a place in the tables

@@ -1,6 +1,4 @@
-pub mod Admitted
-pub mod Jobs
-pub mod Moments
+pub mod Making
 pub mod Order
 pub mod Places
-pub mod Pulls
+pub mod Reads

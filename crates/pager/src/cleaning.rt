@@ -9,9 +9,9 @@ ghost use Rattle.pager.specs.Places.{Ready};
 ghost use Rattle.std.specs.List.{range_with_len};
 
 use crate::Pager;
+use crate::reading::read;
 use bank::Bank;
 use parity_log::PageState;
-use members::read;
 use page::Page;
 
 impl<B: Bank> Pager<B> {
@@ -38,11 +38,13 @@ impl<B: Bank> Pager<B> {
             Ok(_) => {
                 let _done = self.place(into, page, &bytes.0);
             }
-            Err(missing) => {
-                let group = from;
-                self.ledger
-                    .set_page(page, PageState::Lost { group, missing });
-            }
+            Err(missing) => self.ledger.set_page(
+                page,
+                PageState::Lost {
+                    group: from,
+                    missing,
+                },
+            ),
         }
     }
 

@@ -6,15 +6,25 @@ ghost use Rattle.parity_log.specs.Tables.{with_state};
 ghost use Rattle.parity_log.specs.declared.records.GroupState.TheVariants.{Free};
 ghost use Rattle.parity_log.specs.declared.records.PageState.TheVariants.{Out};
 ghost use Rattle.parity_log.specs.declared.records.Tables.{Tables as LogTables};
-ghost use Rattle.members.specs.Reads.{Limited};
+ghost use Rattle.pager.specs.Reads.{Limited};
 ghost use Rattle.pager.specs.Places.{Fit, placed_as};
 ghost use Rattle.std.specs.List.{range_with_len};
 
 use crate::Pager;
 use bank::Bank;
 use parity_log::PageState;
-use members::free_slots;
 use page::PAGE_SIZE;
+
+// Frees a group's slot on every server, the parity server last.
+fn free_slots<B: Bank>(bank: &mut B, servers: usize, group: usize)
+    requires { (B.Bank.order bank.old) × (servers ≤ 8) }
+    ensures order { B.Bank.order bank.new }
+    ensures ran { (v : LogTables) → Ends B.Bank.steps (free_on (range_with_len 0 (servers + 1)) group v) bank.old v bank.new }
+{
+    for server in 0..servers + 1 {
+        let _ = bank.free(server, group);
+    }
+}
 
 impl<B: Bank> Pager<B> {
     // A group becomes free.

@@ -12,7 +12,7 @@ use Rattle.parity_log.proofs.ChangesLaws.{changes_lose}
 use Rattle.parity_log.proofs.Keeping.{lose_leaves, release_same}
 use Rattle.parity_log.proofs.Bounds.{shape_bounds}
 use Rattle.parity_log.proofs.RuleLaws.{ends_as}
-use Rattle.members.proofs.AskingLaws.{weight_small}
+use Rattle.pager.proofs.AskingLaws.{weight_small}
 use Rattle.pager.proofs.CleaningWays.{sound_limits}
 use Rattle.pager.proofs.PageoutWays.{out_places, kept_ends, lost_ends, lost_settles}
 use Rattle.pager.proofs.Pager.judge.Goals as goal
