@@ -1,4 +1,6 @@
 //! A row of page servers of any kinds, told by number from 0.
+#![tactic(auto)]
+
 mod copying;
 mod rows;
 

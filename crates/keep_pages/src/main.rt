@@ -1,4 +1,6 @@
 //! Keeps standard input as pages on a mirror of two memory servers, lets one half fall and come back, and reads all of it back.
+#![tactic(auto)]
+
 ghost use Rattle.std.specs.Prelude.{◌*◌, ◌≤◌, length, IfOk};
 
 use memory::{MOST_SLOTS, Memory};

@@ -1,4 +1,6 @@
 //! Two page servers that hold each page twice.
+#![tactic(auto)]
+
 ghost use Rattle.std.specs.Prelude.{◌≡◌, ◌<◌, min, length};
 ghost use Rattle.mirror.specs.Joined.{Ordered, means};
 ghost use Rattle.mirror.specs.Laws.{mirror_laws};

@@ -1,5 +1,5 @@
 -- The nine refusals with their numbers and words, the layers, and the places of a fault.
-use Rattle.std.specs.Prelude.{ℕ, Bool, List, Some, None as Nowhere, codes, Option, ◌==◌}
+use Rattle.std.specs.Prelude.{ℕ, Bool, List, Some, None as Nowhere, codes, ◌==◌}
 use Rattle.page.specs.declared.faults.Refusal.{Refusal}
 use Rattle.page.specs.declared.faults.Refusal.TheVariants.{Range, Length, None, Lost, Gone, Shape, Full, Worn, Unread}
 use Rattle.page.specs.declared.faults.Layer.{Layer}

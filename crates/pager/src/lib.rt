@@ -1,4 +1,6 @@
 //! A pager over any bank of page servers.
+#![tactic(auto)]
+
 mod cleaning;
 mod making;
 mod pagein;

@@ -1,4 +1,5 @@
 //! Prints which shapes a pager takes, and what a long run of calls came to, against a book of its own.
+#![tactic(auto)]
 
 mod runs;
 mod shapes;

@@ -1,4 +1,6 @@
 //! Pages standard input out through a pager over five memory servers, one of which is down, and reads it back.
+#![tactic(auto)]
+
 ghost use Rattle.std.specs.Prelude.{◌*◌, ◌≤◌, length, IfOk};
 ghost use Rattle.pager.specs.Order.{Ordered};
 

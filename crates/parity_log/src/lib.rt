@@ -1,4 +1,6 @@
 //! The parity log: its tables, and the rules of what is asked of the servers.
+#![tactic(auto)]
+
 mod choices;
 mod ledger;
 mod owners;

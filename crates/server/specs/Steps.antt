@@ -1,5 +1,5 @@
 -- What a call may do to a page server: length first, then range, then a server that is down, then its era kept or raised.
-use Rattle.std.specs.Prelude.{◌≡◌, ℕ, ◌<◌, ◌≤◌, Bool, true, false, ◌⊎◌, List, Ok, Err, Result, ◌≢◌}
+use Rattle.std.specs.Prelude.{◌≡◌, ℕ, ◌<◌, ◌≤◌, true, false, ◌⊎◌, List, Ok, Result, ◌≢◌}
 use Rattle.page.specs.declared.faults.Fault.{Fault}
 use Rattle.page.specs.declared.faults.Refusal.TheVariants.{Range, Length, Gone}
 use Rattle.server.specs.Meaning.{Held, nothing, holds, Meaning, Sound, SameOrNothing}

@@ -1,4 +1,6 @@
 //! Page servers: what every kind promises its callers.
+#![tactic(auto)]
+
 ghost use Rattle.page.specs.declared.faults.Fault.{Fault as Refused};
 ghost use Rattle.server.specs.Calls.{Answer, Call, Left, filled, to_free, to_get, to_put};
 ghost use Rattle.server.specs.Meaning.{Meaning};
@@ -51,14 +53,14 @@ pub trait Pullable: PageServer {
     ghost backs: { Self → Outcome (Unit {0}) Refused → Self → Type 0 };
 
     fn fall(&mut self)
-        requires { order self.old }
-        ensures order { order self.new }
+        requires { Self.order self.old }
+        ensures order { Self.order self.new }
         ensures falls { falls self.old self.new }
-        ensures meets { Falls (meaning self.old) (meaning self.new) };
+        ensures meets { Falls (Self.meaning self.old) (Self.meaning self.new) };
 
     fn back(&mut self) -> Result<(), Fault>
-        requires { order self.old }
-        ensures order { order self.new }
+        requires { Self.order self.old }
+        ensures order { Self.order self.new }
         ensures backs { backs self.old result self.new }
-        ensures meets { Backs (meaning self.old) result (meaning self.new) };
+        ensures meets { Backs (Self.meaning self.old) result (Self.meaning self.new) };
 }

@@ -1,4 +1,5 @@
 //! Prints what page servers answer at the edges: sizes, bad lengths and slots, last eras, mirrors with a half down, banks.
+#![tactic(auto)]
 
 mod banks;
 mod calls;
