@@ -58,8 +58,9 @@ def declared(path, text):
     for m in re.finditer(r"(?m)^[ ]*(?:(?:abbrev|unfoldable) )?((?:pub )?)((?:[^\s(){}:;,.]+ )*?[^\s(){}:;,.]+)(?: [({][^\n]*?[)}])* : ", text):
         if answers and (m.group(1) or "goal." in text[m.end():m.end() + 40]):
             continue
-        for name in m.group(2).split(" "):
-            yield name
+        names = m.group(2).split(" ")
+        if not {"=", "let", "in", "λ", "→"} & set(names):
+            yield from names
 
 
 def turn(text, names):

@@ -1,7 +1,7 @@
 -- A pair and the end of a row owe what every row owes.
 use Rattle.std.specs.Prelude.{◌≡◌, ℕ, ◌+◌, ◌-◌, ◌<◌, ◌≤◌, Bool, true, false, ◌≢◌, Err, Result, ◌==◌, refl}
-use Rattle.std.proofs.Common.{sym, ap, subst, ◌∙◌, arith, eqb_true, eq-eqb, ne_eqb}
-use Rattle.std.proofs.lemmas.Bool.{eqb_false}
+use Rattle.std.proofs.Common.{sym, ap, subst, ◌∙◌, arith, eqb-true, eq-eqb, ne_eqb}
+use Rattle.std.proofs.lemmas.Bool.{eqb-false}
 use Rattle.page.specs.declared.faults.Fault.{Fault}
 use Rattle.server.specs.Meaning.{Meaning, Sound}
 use Rattle.server.specs.Calls.{Call, Answer}
@@ -13,8 +13,8 @@ by_first : {P : Type 0} (i : ℕ) → (i ≡ 0 → P) → (0 < i → P) → P
 by_first {P} i first rest = go (i == 0) refl
   where
     go : (v : Bool) → (i == 0) ≡ v → P
-    go true e = first (eqb_true i 0 e)
-    go false e = let n : i ≢ 0 = eqb_false i 0 e in rest (omega arith)
+    go true e = first (eqb-true i 0 e)
+    go false e = let n : i ≢ 0 = eqb-false i 0 e in rest (omega arith)
 
 at_first : (m : Meaning) (f : ℕ → Meaning) (i : ℕ) → i ≡ 0 → means_at m f i ≡ m
 at_first m f i e = simp (eq-eqb i 0 e)

@@ -68,14 +68,14 @@ pub trait PullableBank: Bank {
     ghost backs: { Self → ℕ → Outcome (Unit {0}) Refused → Self → Type 0 };
 
     fn fall(&mut self, server: usize) -> Result<(), Fault>
-        requires { order self.old }
-        ensures order { order self.new }
+        requires { Self.order self.old }
+        ensures order { Self.order self.new }
         ensures falls { falls self.old server result self.new }
-        ensures meets { Reaches Fell (count self.old) (means self.old) server result (count self.new) (means self.new) };
+        ensures meets { Reaches Fell (Self.count self.old) (Self.means self.old) server result (Self.count self.new) (Self.means self.new) };
 
     fn back(&mut self, server: usize) -> Result<(), Fault>
-        requires { order self.old }
-        ensures order { order self.new }
+        requires { Self.order self.old }
+        ensures order { Self.order self.new }
         ensures backs { backs self.old server result self.new }
-        ensures meets { Reaches Backs (count self.old) (means self.old) server result (count self.new) (means self.new) };
+        ensures meets { Reaches Backs (Self.count self.old) (Self.means self.old) server result (Self.count self.new) (Self.means self.new) };
 }

@@ -1,5 +1,5 @@
 -- A cleaning moves the pages that it can read and finds the others lost; and a group made ready for a pageout.
-use Rattle.std.proofs.Common.{◌≡◌, ℕ, zero, suc, ◌+◌, ◌%◌, ◌<◌, ◌≤◌, Bool, true, false, cond, eqb, ltb, ◌⊎◌, List, [], ◌∷◌, ◌++◌, map, Some, None, Option, sym, refl, ap, ◌∙◌, subst, inl, inr, arith, ltb_false, ltb-true}
+use Rattle.std.proofs.Common.{◌≡◌, ℕ, zero, suc, ◌+◌, ◌%◌, ◌<◌, ◌≤◌, Bool, true, false, cond, eqb, ltb, ◌⊎◌, List, [], ◌∷◌, ◌++◌, map, Some, None, Option, sym, refl, ap, ◌∙◌, subst, inl, inr, arith, ltb-false, ltb-true}
 use Rattle.std.specs.List.{range_with_len}
 use Rattle.std.proofs.lemmas.Bool.{cases_eq}
 use Rattle.parity_log.specs.declared.records.PageState.TheVariants.{Out}
@@ -163,7 +163,7 @@ module _ (M : Mode) where
         go : (w : Tables) (m : Row) (ns : List (Finding × Row)) (t : Bool) → ltb 1 (free_count v) ≡ t → Runs M.steps (cond t (give (opened v g)) (clean (opened v g) g (fewest_live v))) b ns w m → Opens v k l ns g w m
         go w m ns true t (x, y, z) = let o = open_next v g settled none next (ltb-true 1 (free_count v) t) in rw (x, y, z) (record { shape = refl; settled = o.0; now = o.1; ok = (_, inv₁); news = inl refl })
         go w m ns false t run =
-            let last = open_last v g settled none next (ltb_false 1 (free_count v) t) in
+            let last = open_last v g settled none next (ltb-false 1 (free_count v) t) in
             let o = clean_law (opened v g) b k l _ g last.0 inv₁ last.2 ns w m (rw last.1 at run) in
             record { shape = o.shape; settled = o.settled; now = o.now; ok = o.ok; news = o.news }
 

@@ -1,5 +1,5 @@
 -- What a caller is refused for before any server is asked.
-use Rattle.std.proofs.Common.{◌≡◌, ℕ, ◌<◌, true, false, eqb, ltb, Some, None as Nowhere, Option, refl, ap, ltb-true, eqb_true}
+use Rattle.std.proofs.Common.{◌≡◌, ℕ, ◌<◌, true, false, eqb, ltb, Some, None as Nowhere, Option, refl, ap, ltb-true, eqb-true}
 use borrow.Author.Tests.{both_ways}
 use Rattle.std.proofs.lemmas.Bool.{cond_both}
 use Rattle.page.specs.declared.faults.Fault.{Fault}
@@ -29,6 +29,6 @@ Objects v p n (Some f) = Plain f
 pub objects : (v : Tables) (p n : ℕ) → Objects v p n (objection v p n)
 objects v p n = cond_both (within v.shape) _ (Some (fault_of Log BadShape)) (Objects v p n)
     (λ made. cond_both (ltb p (capacity v.shape)) _ (Some (on_page Range p)) (Objects v p n)
-    (λ low. cond_both (eqb n 512) Nowhere (Some (on_page Length p)) (Objects v p n) (λ long. (made, ltb-true p (capacity v.shape) low, eqb_true n 512 long)) (λ _. record { not_lost = refl; not_none = refl }))
+    (λ low. cond_both (eqb n 512) Nowhere (Some (on_page Length p)) (Objects v p n) (λ long. (made, ltb-true p (capacity v.shape) low, eqb-true n 512 long)) (λ _. record { not_lost = refl; not_none = refl }))
     (λ _. record { not_lost = refl; not_none = refl }))
     (λ _. record { not_lost = refl; not_none = refl })

@@ -1,5 +1,5 @@
 -- The page of a pageout placed in the open group, its old group released, a full group closed, and a refused put judged.
-use Rattle.std.proofs.Common.{◌≡◌, ℕ, ◌+◌, ◌-◌, ◌<◌, Bool, true, false, cond, eqb, List, [], ◌∷◌, get_or, is_ok, Some, None, Ok as Done, Err, Result, refl, ap, ◌∙◌, inl, inr, arith, eq-eqb, ne_eqb, eqb_true}
+use Rattle.std.proofs.Common.{◌≡◌, ℕ, ◌+◌, ◌-◌, ◌<◌, Bool, true, false, cond, eqb, List, [], ◌∷◌, get_or, is_ok, Some, None, Ok as Done, Err, Result, refl, ap, ◌∙◌, inl, inr, arith, eq-eqb, ne_eqb, eqb-true}
 use Rattle.std.proofs.lemmas.Bool.{cond_both}
 use Rattle.page.specs.declared.faults.Fault.{Fault}
 use Rattle.server.specs.Meaning.{nothing}
@@ -57,7 +57,7 @@ module _ (M : Mode) where
             quiet = q.0;
             is = q.1;
             empty = λ j ne z. rw q.2 (ap (λ m. m.held g) (pu.others j ne) ∙ z);
-            ok = rw (q.1, q.2) (_, close_inv M v b run.1 k l c inv sound g run.0 now (eqb_true _ _ t) pu);
+            ok = rw (q.1, q.2) (_, close_inv M v b run.1 k l c inv sound g run.0 now (eqb-true _ _ t) pu);
           }
       go false t (x, y, z) = rw (x, y, z) (record { quiet = refl; is = refl; empty = λ j ne q. q; ok = (c, inv) })
 

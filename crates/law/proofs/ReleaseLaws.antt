@@ -1,5 +1,5 @@
 -- A group freed on every server, and what that keeps.
-use Rattle.std.proofs.Common.{◌≡◌, ℕ, ◌+◌, ◌<◌, Bool, true, false, cond, List, [], ◌∷◌, Some, None, Option, refl, inl, arith, eqb_true}
+use Rattle.std.proofs.Common.{◌≡◌, ℕ, ◌+◌, ◌<◌, Bool, true, false, cond, List, [], ◌∷◌, Some, None, Option, refl, inl, arith, eqb-true}
 use Rattle.std.specs.List.{range_with_len, AllByRecursion as All}
 use Rattle.std.proofs.lemmas.Bool.{and_parts}
 use Rattle.server.specs.Meaning.{nothing}
@@ -75,7 +75,7 @@ module _ (M : Mode) where
     none_at_unused g t =
         let parts = and_parts _ _ t in
         let closed = closed_from (state_of v g) parts.0 in
-        (closed, λ p i y. omega (arith, eqb_true _ 0 parts.1, live_out v.pages g i v.shape.servers p (rw closed at (sound.placed p g i y).1) y))
+        (closed, λ p i y. omega (arith, eqb-true _ 0 parts.1, live_out v.pages g i v.shape.servers p (rw closed at (sound.placed p g i y).1) y))
 
     pub old_law : (left : Option ℕ) (ns : List (Finding × Row)) (w : Tables) (e : Row) → Runs M.steps (release_old left v) b ns w e → Part (released_old left v) b k l ns w e
     unfolding release_old

@@ -1,7 +1,7 @@
 -- The memory server's rule is one of a page server.
 use Rattle.std.specs.Prelude.{◌≡◌, ℕ, zero, suc, ◌+◌, ◌-◌, ◌*◌, ◌/◌, ◌<◌, ◌≤◌, min, Bool, true, false, cond, ◌≢◌, ◌⊎◌, List, length, get_or, take, drop, set, replicate, Ok, ◌==◌, nat_lt, slice_index_or, slice_set, refl}
-use Rattle.std.proofs.Common.{sym, ap, subst, ◌∙◌, inl, inr, arith, length-set, length-append, length-take, length-drop, get_or-set_same, get_or-set_other, eq-eqb, ne_eqb, lt-ltb, le-ltb, ltb-true, ltb_false, eqb_true}
-use Rattle.std.proofs.lemmas.Bool.{eqb_false}
+use Rattle.std.proofs.Common.{sym, ap, subst, ◌∙◌, inl, inr, arith, length-set, length-append, length-take, length-drop, get_or-set_same, get_or-set_other, eq-eqb, ne_eqb, lt-ltb, le-ltb, ltb-true, ltb-false, eqb-true}
+use Rattle.std.proofs.lemmas.Bool.{eqb-false}
 use Rattle.std.proofs.lemmas.Slice.{between-put_mid, between_is, take-put_mid_below, drop-put_mid}
 use Rattle.page.specs.declared.faults.Layer.TheVariants.{Server}
 use Rattle.server.specs.Meaning.{Held, nothing, holds, Meaning, Sound, Empty}
@@ -37,7 +37,7 @@ module _ (b : List ℕ) (s : ℕ) (p : List ℕ) (l : length p ≡ 512) (h : 512
     where
       go : (v : Bool) → nat_lt k s ≡ v → page_at (written b s p) k ≡ page_at b k
       go true e = slot_below k (ltb-true k s e)
-      go false e = let g = ltb_false k s e in let n : k ≢ s = ne in slot_above k (omega arith)
+      go false e = let g = ltb-false k s e in let n : k ≢ s = ne in slot_above k (omega arith)
 
   as_long : length (written b s p) ≡ length b
   as_long = simp (length-append, length-take, length-drop) (omega arith)
@@ -67,7 +67,7 @@ both P false u v f g = g
 -- what holds of a server before a call and of what the call makes of it holds after
 reaching : (P : Store → Type 0) (x : Store) (n s : ℕ) (y : Store) → P x → (n ≡ 512 → s < slots x → x.up ≡ true → P y) → P (reaches x n s y)
 reaching P x n s y g f =
-    both P (n == 512) _ x (λ e. both P (nat_lt s (slots x)) _ x (λ i. both P x.up _ x (λ u. f (eqb_true n 512 e) (ltb-true s (slots x) i) u) g) g) g
+    both P (n == 512) _ x (λ e. both P (nat_lt s (slots x)) _ x (λ i. both P x.up _ x (λ u. f (eqb-true n 512 e) (ltb-true s (slots x) i) u) g) g) g
 
 put_step : (x : Store) (s : ℕ) (p : List ℕ) → Ordered x → Step (meant x) (to_put s p) (says x (to_put s p)) (meant (after x (to_put s p)))
 put_step x s p o = record {
@@ -125,8 +125,8 @@ flagged_order x bytes s flag l i u o = record {
 }
   where
     which : (k : ℕ) → slice_index_or (slice_set x.flags s flag) k false ≡ true → (v : Bool) → (k == s) ≡ v → k < slots x
-    which k f true e = rw (eqb_true k s e) i
-    which k f false e = let ne : k ≢ s = eqb_false k s e in (o.set k (rw get_or-set_other at f)).0
+    which k f true e = rw (eqb-true k s e) i
+    which k f false e = let ne : k ≢ s = eqb-false k s e in (o.set k (rw get_or-set_other at f)).0
 
 rule_order : (x : Store) (c : Call) → Ordered x → Ordered (after x c)
 rule_order x (to_put s p) o = reaching Ordered x (length p) s _ o (λ l i u. flagged_order x (written x.bytes s p) s true (as_long x.bytes s p l (within x s i)) i u o)

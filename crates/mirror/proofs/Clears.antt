@@ -1,6 +1,6 @@
 -- A server whose slots were all freed holds nothing.
-use Rattle.std.proofs.Common.{◌≡◌, ℕ, zero, suc, ◌<◌, ◌≤◌, eqb, ltb, sym, refl, ap, ◌∙◌, subst, ⊎_elim, arith, ltb_false, ltb-true, eqb_true}
-use borrow.Author.Tests.{eqb_false}
+use Rattle.std.proofs.Common.{◌≡◌, ℕ, zero, suc, ◌<◌, ◌≤◌, eqb, ltb, sym, refl, ap, ◌∙◌, subst, ⊎_elim, arith, ltb-false, ltb-true, eqb-true}
+use borrow.Author.Tests.{eqb-false}
 use Rattle.server.specs.Meaning.{Meaning, nothing, Empty}
 use Rattle.server.specs.Calls.{to_free}
 use Rattle.server.specs.Steps.{Fine, Lawful}
@@ -25,8 +25,8 @@ module _ {S : Type 0} {meaning : S → Meaning} {order : S → Type 0} {r : Rule
         size = f.size ∙ b.size;
         freed = λ k h.
             ⊎_elim
-            (λ e. ap (meaning t).held (eqb_true k n e) ∙ emptied ((meaning t).held n) f.named)
-            (λ e. let ne = eqb_false k n e in ⊎_elim (λ z. z ∙ b.freed k (omega arith)) (λ z. z) (f.others k ne))
+            (λ e. ap (meaning t).held (eqb-true k n e) ∙ emptied ((meaning t).held n) f.named)
+            (λ e. let ne = eqb-false k n e in ⊎_elim (λ z. z ∙ b.freed k (omega arith)) (λ z. z) (f.others k ne))
             (true_or_false (eqb k n));
       }
 
@@ -38,5 +38,5 @@ module _ {S : Type 0} {meaning : S → Meaning} {order : S → Type 0} {r : Rule
       let b = clears (meaning s).size (omega arith) t sw in
       ⊎_elim
       (λ e. b.freed k (ltb-true k (meaning s).size e))
-      (λ e. let q = ltb_false k (meaning s).size e in (laws.sound t b.good).past k (omega (arith, b.size)))
+      (λ e. let q = ltb-false k (meaning s).size e in (laws.sound t b.good).past k (omega (arith, b.size)))
       (true_or_false (ltb k (meaning s).size))

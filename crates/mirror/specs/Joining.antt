@@ -1,7 +1,7 @@
 -- What a call leaves of two halves, taken as one.
 use Rattle.std.specs.Prelude.{◌≡◌, ℕ, ◌≤◌, min, Bool, true, false, cond, ◌||◌, ◌⊎◌, List, Ok, Err, Result, ◌==◌, nat_eq, refl}
-use Rattle.std.proofs.Common.{sym, ap, ap₂, subst, ◌∙◌, inl, inr, ⊎_elim, arith, eqb_true}
-use Rattle.std.proofs.lemmas.Bool.{eqb_false}
+use Rattle.std.proofs.Common.{sym, ap, ap₂, subst, ◌∙◌, inl, inr, ⊎_elim, arith, eqb-true}
+use Rattle.std.proofs.lemmas.Bool.{eqb-false}
 use Rattle.page.specs.declared.faults.Fault.{Fault}
 use Rattle.page.specs.declared.faults.Layer.TheVariants.{Mirror}
 use Rattle.page.specs.declared.faults.Refusal.TheVariants.{None, Gone}
@@ -68,10 +68,10 @@ module _ {m n m' n' : Meaning} {c : Call} (h : Leaves m m' c) (i : Leaves n n' c
       (ap₂ ◌||◌ x.0 y.0, λ k ne. ap₂ first_of (x.1 k ne) (y.1 k ne))
 
   pub joined_agree : Agree m' n'
-  joined_agree k = ⊎_elim named (λ f. let ne = eqb_false k (slot_of c) f in fewer_copies (m.held k) (n.held k) (m'.held k) (n'.held k) (ag k) (h.others k ne) (i.others k ne)) (true_or_false (k == slot_of c))
+  joined_agree k = ⊎_elim named (λ f. let ne = eqb-false k (slot_of c) f in fewer_copies (m.held k) (n.held k) (m'.held k) (n'.held k) (ag k) (h.others k ne) (i.others k ne)) (true_or_false (k == slot_of c))
     where
       named : nat_eq k (slot_of c) ≡ true → Copies (m'.held k) (n'.held k)
-      named e = subst (λ (j : ℕ). Copies (m'.held j) (n'.held j)) (sym (eqb_true k (slot_of c) e)) (fewer_copies (wanted c (m.held (slot_of c))) (wanted c (n.held (slot_of c))) (m'.held (slot_of c)) (n'.held (slot_of c)) (wanted_copies c (m.held (slot_of c)) (n.held (slot_of c)) (ag (slot_of c))) h.named i.named)
+      named e = subst (λ (j : ℕ). Copies (m'.held j) (n'.held j)) (sym (eqb-true k (slot_of c) e)) (fewer_copies (wanted c (m.held (slot_of c))) (wanted c (n.held (slot_of c))) (m'.held (slot_of c)) (n'.held (slot_of c)) (wanted_copies c (m.held (slot_of c)) (n.held (slot_of c)) (ag (slot_of c))) h.named i.named)
 
   pub joined_past : ((k : ℕ) → (joined m n).size ≤ k → (joined m n).held k ≡ nothing) → (k : ℕ) → (joined m' n').size ≤ k → (joined m' n').held k ≡ nothing
   joined_past past k l =

@@ -1,7 +1,7 @@
 -- A mirror's rule is one of a page server, whatever its halves are.
 use Rattle.std.specs.Prelude.{◌≡◌, ℕ, ◌≤◌, true, List, Ok, Err, Result, ◌==◌, ◌≢◌, nat_eq, nat_lt, refl}
-use Rattle.std.proofs.Common.{sym, ap, ap₂, subst, ⊎_elim, arith, ltb-true, ltb_false, eqb_true}
-use Rattle.std.proofs.lemmas.Bool.{eqb_false}
+use Rattle.std.proofs.Common.{sym, ap, ap₂, subst, ⊎_elim, arith, ltb-true, ltb-false, eqb-true}
+use Rattle.std.proofs.lemmas.Bool.{eqb-false}
 use Rattle.page.specs.declared.faults.Fault.{Fault}
 use Rattle.page.specs.declared.faults.Layer.TheVariants.{Mirror}
 use Rattle.page.specs.declared.faults.Refusal.TheVariants.{Range, Length, Gone}
@@ -81,15 +81,15 @@ module _ {X Y : Type 0} {mx : X → Meaning} {ox : X → Type 0} {rx : Rule X} {
     asked_meets (to_free s) a fine t = both_meets (to_free s) a t.0 t.1 fine t.2 t.3 (λ h k. (t.4, ap₂ first_of h.1 k.1))
 
     steps_meet : (c : Call) (a : Answer c) → Steps rx ry (joined (mx x) (my y)).size x y c a x' y' → Meets x y c a x' y'
-    steps_meet c a st = ⊎_elim whole (λ e. let bad = eqb_false (length_of c) 512 e in let t = st.long bad in unasked_meets x x' y y' c a o t.1 t.2 (long_step _ c a bad t.0)) (true_or_false (length_of c == 512))
+    steps_meet c a st = ⊎_elim whole (λ e. let bad = eqb-false (length_of c) 512 e in let t = st.long bad in unasked_meets x x' y y' c a o t.1 t.2 (long_step _ c a bad t.0)) (true_or_false (length_of c == 512))
       where
         whole : nat_eq (length_of c) 512 ≡ true → Meets x y c a x' y'
         whole e =
-            let l = eqb_true (length_of c) 512 e in
+            let l = eqb-true (length_of c) 512 e in
             let size = (joined (mx x) (my y)).size in
             ⊎_elim
             (λ f. let i = ltb-true (slot_of c) size f in asked_meets c a (l, i) (st.fine l i))
-            (λ f. let i = ltb_false (slot_of c) size f in let t = st.past l i in unasked_meets x x' y y' c a o t.1 t.2 (past_step _ c a l i t.0))
+            (λ f. let i = ltb-false (slot_of c) size f in let t = st.past l i in unasked_meets x x' y y' c a o t.1 t.2 (past_step _ c a l i t.0))
             (true_or_false (nat_lt (slot_of c) size))
 
 pub mirror_laws : {X Y : Type 0} {mx : X → Meaning} {ox : X → Type 0} {rx : Rule X} {my : Y → Meaning} {oy : Y → Type 0} {ry : Rule Y} → Lawful mx ox rx → Lawful my oy ry → Lawful (means mx my) (Ordered ox oy mx my) (Stepped mx my rx ry)

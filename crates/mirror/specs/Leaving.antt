@@ -1,6 +1,6 @@
 -- What a call leaves of one half, however the half is.
 use Rattle.std.specs.Prelude.{◌≡◌, ℕ, ◌<◌, ◌≤◌, Bool, true, false, ◌⊎◌, List, nat_lt, refl}
-use Rattle.std.proofs.Common.{sym, ap, subst, ◌∙◌, inl, inr, ⊎_elim, arith, ltb-true, ltb_false}
+use Rattle.std.proofs.Common.{sym, ap, subst, ◌∙◌, inl, inr, ⊎_elim, arith, ltb-true, ltb-false}
 use Rattle.server.specs.Meaning.{Held, nothing, holds, Meaning, Sound, SameOrNothing}
 use Rattle.server.specs.Calls.{Call, to_put, to_get, to_free, slot_of, Answer}
 use Rattle.server.specs.Steps.{Fine, Down, Gets, Kept, Raised, Others, Fewer, Step}
@@ -20,7 +20,7 @@ not_held h p e f = clash (cc)
 
 same_or_more : (a b : ℕ) → a ≤ b → (b ≡ a) ⊎ (a < b)
 same_or_more a b h =
-    ⊎_elim (λ e. inr (ltb-true a b e)) (λ e. let q = ltb_false a b e in inl (omega arith)) (true_or_false (nat_lt a b))
+    ⊎_elim (λ e. inr (ltb-true a b e)) (λ e. let q = ltb-false a b e in inl (omega arith)) (true_or_false (nat_lt a b))
 
 -- what the named slot is to hold
 abbrev pub wanted : Call → Held → Held

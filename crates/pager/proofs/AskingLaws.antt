@@ -1,6 +1,6 @@
 -- Asking the members of a group, turn by turn.
-use Rattle.std.proofs.Common.{◌≡◌, ℕ, zero, suc, ◌+◌, ◌-◌, ◌^◌, ◌<◌, ◌≤◌, Bool, true, false, cond, not, eqb, List, [], ◌∷◌, Ok, Err, filter, Result, refl, ap, ◌∙◌, subst, ap₂, add-zero, zero-add, arith, pow_mono, eq-eqb, ne_eqb, eqb_true}
-use borrow.Author.Tests.{eqb_false}
+use Rattle.std.proofs.Common.{◌≡◌, ℕ, zero, suc, ◌+◌, ◌-◌, ◌^◌, ◌<◌, ◌≤◌, Bool, true, false, cond, not, eqb, List, [], ◌∷◌, Ok, Err, filter, Result, refl, ap, ◌∙◌, subst, ap₂, add-zero, zero-add, arith, pow_mono, eq-eqb, ne_eqb, eqb-true}
+use borrow.Author.Tests.{eqb-false}
 use Rattle.std.proofs.lemmas.Nat.{pow-add}
 use Rattle.std.specs.List.{range_with_len}
 use Rattle.page.specs.declared.faults.Fault.{Fault}
@@ -58,9 +58,9 @@ weight_bound s k m (Ok x) hs hk h =
 weight_bound s k m (Err f) hs hk h = go (eqb k s) refl
   where
     go : (v : Bool) → eqb k s ≡ v → (m + (0 + cond v 256 (2 ^ k)) < 512) × (k < s → m + (0 + cond v 256 (2 ^ k)) < 2 ^ (k + 1))
-    go true e = let same = eqb_true k s e in let room : k ≤ 8 = omega arith in let top = pow_mono room in (omega arith, λ lt. absurd (omega arith))
+    go true e = let same = eqb-true k s e in let room : k ≤ 8 = omega arith in let top = pow_mono room in (omega arith, λ lt. absurd (omega arith))
     go false e =
-        let ne = eqb_false k s e in let room : k ≤ 8 = omega arith in let top = pow_mono room in let more = pow-add 2 k 1 in
+        let ne = eqb-false k s e in let room : k ≤ 8 = omega arith in let top = pow_mono room in let more = pow-add 2 k 1 in
         (omega arith, λ _. omega arith)
 
 pub weight_small : (s k : ℕ) → k ≤ 8 → weight s k ≤ 256

@@ -1,5 +1,5 @@
 -- The ways through a pagein.
-use Rattle.std.proofs.Common.{◌≡◌, ℕ, ◌<◌, Bool, true, false, cond, eqb, ltb, List, Some, None as Nowhere, Ok, Err, Option, Result, sym, refl, ap, subst, arith, ltb-true, eqb_true}
+use Rattle.std.proofs.Common.{◌≡◌, ℕ, ◌<◌, Bool, true, false, cond, eqb, ltb, List, Some, None as Nowhere, Ok, Err, Option, Result, sym, refl, ap, subst, arith, ltb-true, eqb-true}
 use Rattle.page.specs.declared.faults.Fault.{Fault}
 use Rattle.page.specs.declared.faults.Layer.TheVariants.{Log}
 use Rattle.page.specs.declared.faults.Refusal.TheVariants.{Length, None, Range, Shape}
@@ -26,7 +26,7 @@ pub admitted : (v : Tables) (p n : ℕ) → Admitted v p n → (within v.shape �
 admitted v p n h = go (within v.shape) (ltb p (capacity v.shape)) (eqb n 512) refl refl refl h
   where
     go : (x y z : Bool) → within v.shape ≡ x → ltb p (capacity v.shape) ≡ y → eqb n 512 ≡ z → Passes (cond x (cond y (cond z Nowhere (Some (on_page Length p))) (Some (on_page Range p))) (Some (fault_of Log Shape))) → (within v.shape ≡ true) × (p < capacity v.shape) × (n ≡ 512)
-    go true true true s r l q = (s, ltb-true _ _ r, eqb_true _ _ l)
+    go true true true s r l q = (s, ltb-true _ _ r, eqb-true _ _ l)
     go true true false s r l q = let w : ◌≡◌ {A = ℕ} 0 1 = cc in absurd (omega arith)
     go true false z s r l q = let w : ◌≡◌ {A = ℕ} 0 1 = cc in absurd (omega arith)
     go false y z s r l q = let w : ◌≡◌ {A = ℕ} 0 1 = cc in absurd (omega arith)

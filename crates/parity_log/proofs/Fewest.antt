@@ -3,7 +3,7 @@ use Rattle.std.proofs.Common.{◌≡◌, ℕ, ◌<◌, ◌≤◌, Bool, true, lt
 use Rattle.std.specs.List.{range_with_len, ContainsAt as Has, AllByRecursion as All}
 use Rattle.std.proofs.lemmas.List.FromFn.{length-range_with_len, get_or-range_with_len}
 use Rattle.std.proofs.ByRecursion.{All-get_or, all-has, all_has_itself, all_kept_by, kept_by_passes}
-use Rattle.std.proofs.lemmas.Bool.{ltb-true, ltb_false, both_ways, false≢true, cond_both}
+use Rattle.std.proofs.lemmas.Bool.{ltb-true, ltb-false, both_ways, false≢true, cond_both}
 use Rattle.parity_log.specs.declared.records.GroupState.{GroupState}
 use Rattle.parity_log.specs.declared.records.GroupState.TheVariants.{Free, Open, Closed}
 use Rattle.parity_log.specs.declared.records.Tables.{Tables}
@@ -21,7 +21,7 @@ module _ (count : ℕ → ℕ) (P : ℕ → Type 0) where
   least_from b [] h = (b, refl, (h.0, (omega arith, tt)))
   least_from b (x ∷ xs) h = cond_both (ltb (count x) (count b)) (Some x) (Some b) (λ o. (c : ℕ) × (fold (fewer count) o xs ≡ Some c) × Least count P (b ∷ x ∷ xs) (Some c))
       (λ e. let r = least_from x xs h.1 in (r.0, r.1, (r.2.0, (omega (arith, ltb-true (count x) (count b) e, r.2.1.0), r.2.1))))
-      (λ e. let r = least_from b xs (h.0, h.1.1) in (r.0, r.1, (r.2.0, (r.2.1.0, (omega (arith, ltb_false (count x) (count b) e, r.2.1.0), r.2.1.1)))))
+      (λ e. let r = least_from b xs (h.0, h.1.1) in (r.0, r.1, (r.2.0, (r.2.1.0, (omega (arith, ltb-false (count x) (count b) e, r.2.1.0), r.2.1.1)))))
 
   least_of : (xs : List ℕ) → All P xs → Least count P xs (fold (fewer count) None xs)
   least_of [] h = tt

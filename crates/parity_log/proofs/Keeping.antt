@@ -1,6 +1,6 @@
 -- What the tables keep from a page's leaving of its group on: placing, releasing, closing, losing and freeing.
 use Rattle.std.proofs.Common.{◌≡◌, ℕ, ◌+◌, ◌-◌, ◌<◌, ◌≤◌, true, false, eqb, List, Some, None, Option, sym, refl, ap, ◌∙◌, subst, ⊎_elim, arith}
-use Rattle.std.proofs.lemmas.Bool.{cond_both, cases_eq, eqb_true, eqb_false, and_parts, and_cases, both_ways}
+use Rattle.std.proofs.lemmas.Bool.{cond_both, cases_eq, eqb-true, eqb-false, and_parts, and_cases, both_ways}
 use Rattle.page.specs.Pages.{xor_page, zeros}
 use Rattle.page.specs.declared.pages.Page.{Page}
 use Rattle.parity_log.specs.declared.records.PageState.{PageState}
@@ -33,7 +33,7 @@ module _ (v : Tables) (g : ℕ) (leaving : Leaving v (Some g)) where
       let sound = leaving.sound in
       let both = and_parts (is_closed (state_of v g)) (eqb (live v g) 0) t in
       let closed = closed_from (state_of v g) both.0 in
-      let none = eqb_true (live v g) 0 both.1 in
+      let none = eqb-true (live v g) 0 both.1 in
       let below = closed_below v sound g closed in
       record {
         sound = sound_freed v g sound closed (λ p i e. omega (arith, none, live_out v.pages g i v.shape.servers p (rw closed at (sound.placed p g i e).1) e));
@@ -50,7 +50,7 @@ module _ (v : Tables) (g : ℕ) (leaving : Leaving v (Some g)) where
     used = λ h e _. ⊎_elim
         (λ same. ⊎_elim
         (λ c. absurd (both_ways (is_closed (state_of v g)) c (ap (λ k. is_closed (state_of v k)) (sym same) ∙ ap is_closed e)))
-        (λ n. let some = eqb_false (live v g) 0 n in rw same (positive (live v g) some)) (and_cases (is_closed (state_of v g)) (eqb (live v g) 0) f))
+        (λ n. let some = eqb-false (live v g) 0 n in rw same (positive (live v g) some)) (and_cases (is_closed (state_of v g)) (eqb (live v g) 0) f))
         (λ ne. leaving.used h e (λ z. ne (cc))) (cases_eq h g);
   }
     where
@@ -82,7 +82,7 @@ used_all v leaving g e = leaving.used g e (λ n. let z : ◌≡◌ {A = ℕ} 0 1
 pub close_settles : (v : Tables) (g p : ℕ) → Leaving v None → state_of v g ≡ Open → 1 ≤ v.filled → page_state v p ≡ Out g (v.filled - 1) → Settled (closed_full v g)
 close_settles v g p leaving o some at = cond_both (eqb v.filled v.shape.servers) (shut v g) v Settled full (λ f. record {
   sound = sound;
-  room = let ne = eqb_false v.filled v.shape.servers f in omega (arith, sound.filled);
+  room = let ne = eqb-false v.filled v.shape.servers f in omega (arith, sound.filled);
   none_open = λ n. absurd (not_none v sound g o n);
   spare = leaving.spare;
   used = used_all v leaving;
@@ -100,7 +100,7 @@ close_settles v g p leaving o some at = cond_both (eqb v.filled v.shape.servers)
 
     full : eqb v.filled v.shape.servers ≡ true → Settled (shut v g)
     full t =
-        let all = eqb_true v.filled v.shape.servers t in
+        let all = eqb-true v.filled v.shape.servers t in
         let b = shape_bounds v.shape sound.shape in
         let below = open_below v sound g o in
         record {

@@ -1,6 +1,6 @@
 -- The page that the table names at a position, and what a change of one entry makes of it.
-use Rattle.std.proofs.Common.{◌≡◌, ℕ, zero, suc, ◌+◌, ◌<◌, Bool, true, false, cond, ◌&&◌, eqb, ◌≢◌, List, [], ◌∷◌, length, get_or, set, Some, None, Option, sym, refl, ap, ◌∙◌, add-zero, add-suc, add-one, arith, length-set, get_or-set_other, get_or-set_same, eq-eqb, ne_eqb, eqb_true}
-use borrow.Author.Tests.{eqb_false}
+use Rattle.std.proofs.Common.{◌≡◌, ℕ, zero, suc, ◌+◌, ◌<◌, Bool, true, false, cond, ◌&&◌, eqb, ◌≢◌, List, [], ◌∷◌, length, get_or, set, Some, None, Option, sym, refl, ap, ◌∙◌, add-zero, add-suc, add-one, arith, length-set, get_or-set_other, get_or-set_same, eq-eqb, ne_eqb, eqb-true}
+use borrow.Author.Tests.{eqb-false}
 use Rattle.parity_log.specs.declared.records.PageState.{PageState}
 use Rattle.parity_log.specs.declared.records.PageState.TheVariants.{NotOut, Out, Lost}
 use Rattle.parity_log.specs.Tables.{names, page_from, page_at}
@@ -19,7 +19,7 @@ names_out NotOut g i e = clash false e refl
 names_out (Out h j) g i e = go (eqb h g) (eqb j i) refl refl e
   where
     go : (a b : Bool) → eqb h g ≡ a → eqb j i ≡ b → (a && b) ≡ true → Out h j ≡ Out g i
-    go true true p q _ = let x = eqb_true h g p in let y = eqb_true j i q in cc
+    go true true p q _ = let x = eqb-true h g p in let y = eqb-true j i q in cc
     go true false p q z = clash false z refl
     go false b p q z = clash false z refl
 names_out (Lost h m) g i e = clash false e refl
@@ -71,8 +71,8 @@ module _ (xs : List PageState) (p : ℕ) (s : PageState) (l : p < length xs) whe
       each q = go (eqb q p) refl
         where
           go : (v : Bool) → eqb q p ≡ v → names (get_or (set xs p s) q NotOut) g i ≡ false
-          go true e = rw (eqb_true q p e) (at_own g i ∙ f)
-          go false e = let ne = eqb_false q p e in at_other q g i ne ∙ not_true (names (get_or xs q NotOut) g i) (away q ne)
+          go true e = rw (eqb-true q p e) (at_own g i ∙ f)
+          go false e = let ne = eqb-false q p e in at_other q g i ne ∙ not_true (names (get_or xs q NotOut) g i) (away q ne)
 
   -- any other position
   pub named_as_before : (g i : ℕ) → names s g i ≡ false → names (get_or xs p NotOut) g i ≡ false → page_at (set xs p s) g i ≡ page_at xs g i
@@ -83,5 +83,5 @@ module _ (xs : List PageState) (p : ℕ) (s : PageState) (l : p < length xs) whe
       each q = go (eqb q p) refl
         where
           go : (v : Bool) → eqb q p ≡ v → names (get_or (set xs p s) q NotOut) g i ≡ names (get_or xs q NotOut) g i
-          go true z = rw (eqb_true q p z) (at_own g i ∙ f ∙ sym e)
-          go false z = at_other q g i (eqb_false q p z)
+          go true z = rw (eqb-true q p z) (at_own g i ∙ f ∙ sym e)
+          go false z = at_other q g i (eqb-false q p z)

@@ -15,4 +15,4 @@ to_end a m p =
 pub returns : goal.returns
 returns c =
     let m = c.args.memory.now in
-    ap (put_mid (512 * c.args.slot) (length m - 512 * c.args.slot) m) c.write-head.ensures ∙ to_end (512 * c.args.slot) m c.args.page.now
+    ap (put_mid (512 * c.args.slot) (length m - 512 * c.args.slot) m) c.write_head.ensures ∙ to_end (512 * c.args.slot) m c.args.page.now

@@ -2,19 +2,19 @@ use Rattle.std.proofs.Common.{length, Ok, refl}
 use Rattle.mirror.proofs.Asks.{get_asks_first, get_asks_both, get_asks_neither}
 use Rattle.mirror.proofs.Mirror.get_either.Goals as goal
 
-pub returns-in-default : goal.returns-in-default
-returns-in-default g c =
+pub returns-in_default : goal.returns-in_default
+returns-in_default g c =
     let x = c.args.self.now in
     let r = get_asks_first g.P.PageServer.laws g.Q.PageServer.laws x.first c.get.new.self x.second x.second c.requires.0 c.args.slot c.requires.1.1 (length c.args.buffer.now) c.get.new.buffer
-    c.requires.1.0 c.in-default.ensures.steps refl in
+    c.requires.1.0 c.in_default.ensures.steps refl in
     record { order = r.0; asked = r.1; left = tt }
 
-pub returns-in-default-get : goal.returns-in-default-get
-returns-in-default-get g c =
+pub returns-in_default-get : goal.returns-in_default-get
+returns-in_default-get g c =
     let x = c.args.self.now in
     let page = Ok c.get-2.new.buffer in
     let r = get_asks_both g.P.PageServer.laws g.Q.PageServer.laws x.first c.get.new.self x.second c.get-2.new.self c.requires.0 c.args.slot c.requires.1.1 c.args.buffer.now c.get.new.buffer c.in-Err.one page page
-    c.requires.1.0 c.in-Err.ensures.steps c.in-Err.ensures.left c.in-default-get.ensures.steps refl in
+    c.requires.1.0 c.in-Err.ensures.steps c.in-Err.ensures.left c.in_default-get.ensures.steps refl in
     record { order = r.0; asked = r.1; left = tt }
 
 pub returns : goal.returns

@@ -8,16 +8,16 @@ use Rattle.pager.proofs.Pager.clean.Goals as goal
 
 pub release-requires : goal.release-requires
 release-requires g c =
-    let v = c.move-all.new.self.ledger.tables in
-    let all = c.move-all.ensures in
+    let v = c.move_all.new.self.ledger.tables in
+    let all = c.move_all.ensures in
     let s = shape_bounds v.shape all.cleaning.sound.shape in
     (all.order, (omega (arith, s.1, (clean_group v c.args.into c.args.from _ all.cleaning).0), (s.5, all.linked)))
 
 pub returns : goal.returns
 returns g c =
-    let all = c.move-all.ensures in
+    let all = c.move_all.ensures in
     let out = c.release.ensures in
-    let end = clean_end c.move-all.new.self.ledger.tables c.args.into c.args.from all.cleaning in
+    let end = clean_end c.move_all.new.self.ledger.tables c.args.into c.args.from all.cleaning in
     record {
       order = out.order;
       linked = out.linked;

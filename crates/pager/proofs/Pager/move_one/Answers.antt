@@ -7,8 +7,8 @@ use Rattle.parity_log.proofs.CleaningLaws.{clean_skip, clean_place, clean_lose}
 use Rattle.pager.proofs.CleaningWays.{sound_limits, clean_places, place_fits, lose_fits, nobody_moves, one_moves, one_is_lost}
 use Rattle.pager.proofs.Pager.move_one.Goals as goal
 
-pub page-at-requires : goal.page-at-requires
-page-at-requires g c =
+pub page_at-requires : goal.page_at-requires
+page_at-requires g c =
     let at = clean_places c.args.self.now.ledger.tables _ _ _ c.requires.1.1.0 c.requires.1.1.1 in
     (at.0, (at.1, c.requires.1.0))
 
@@ -20,17 +20,17 @@ read-requires g c =
 
 pub place-done-requires : goal.place-done-requires
 place-done-requires g c =
-    let r = place_fits c.args.self.now.ledger c.args.into c.args.from c.args.position c.in-Some.page c.requires.1.0 c.requires.1.1.0 c.requires.1.1.1 (sym c.page-at.ensures ∙ c.in-Some.is) in
+    let r = place_fits c.args.self.now.ledger c.args.into c.args.from c.args.position c.in-Some.page c.requires.1.0 c.requires.1.1.0 c.requires.1.1.1 (sym c.page_at.ensures ∙ c.in-Some.is) in
     (c.read.ensures.order, r)
 
-pub set-page-requires : goal.set-page-requires
-set-page-requires g c = lose_fits c.args.self.now.ledger c.args.into c.args.from c.args.position c.in-Some.page c.requires.1.0 c.requires.1.1.0 c.requires.1.1.1 (sym c.page-at.ensures ∙ c.in-Some.is) c.in-Err.missing
+pub set_page-requires : goal.set_page-requires
+set_page-requires g c = lose_fits c.args.self.now.ledger c.args.into c.args.from c.args.position c.in-Some.page c.requires.1.0 c.requires.1.1.0 c.requires.1.1.1 (sym c.page_at.ensures ∙ c.in-Some.is) c.in-Err.missing
 
-pub returns-in-default : goal.returns-in-default
-returns-in-default g c =
+pub returns-in_default : goal.returns-in_default
+returns-in_default g c =
     let v = c.args.self.now.ledger.tables in
     let b = c.args.self.now.bank in
-    let nobody = sym c.page-at.ensures ∙ c.in-default.is in
+    let nobody = sym c.page_at.ensures ∙ c.in_default.is in
     record {
       order = c.requires.0;
       linked = c.requires.1.0;
@@ -42,7 +42,7 @@ returns-in-default g c =
 pub returns-in-Ok : goal.returns-in-Ok
 returns-in-Ok g c =
     let v = c.args.self.now.ledger.tables in
-    let here = sym c.page-at.ensures ∙ c.in-Some.is in
+    let here = sym c.page_at.ensures ∙ c.in-Some.is in
     let put = c.place-done.ensures in
     let done = clean_place v c.args.into c.args.from c.args.position c.in-Some.page c.read.new.buffer c.requires.1.1.0 c.requires.1.1.1 here in
     record {
@@ -56,7 +56,7 @@ returns-in-Ok g c =
 pub returns-in-Err : goal.returns-in-Err
 returns-in-Err g c =
     let v = c.args.self.now.ledger.tables in
-    let here = sym c.page-at.ensures ∙ c.in-Some.is in
+    let here = sym c.page_at.ensures ∙ c.in-Some.is in
     let gone = c.set_page.ensures in
     let done = clean_lose v c.args.into c.args.from c.args.position c.in-Some.page c.in-Err.missing c.requires.1.1.0 c.requires.1.1.1 here in
     record {

@@ -21,73 +21,73 @@ place-done-requires g c =
     let below : c.args.page < capacity l.tables.shape = subst (λ (y : Shape). c.args.page < capacity y) (sym r.shape) c.requires.1.1.1 in
     (r.order, (omega (arith, s.room, (shape_bounds l.tables.shape s.sound.shape).5), changes_place l c.ready-group.result c.args.page s.sound r.linked r.ready.open_now s.room below))
 
-pub release-old-requires : goal.release-old-requires
-release-old-requires g c =
+pub release_old-requires : goal.release_old-requires
+release_old-requires g c =
     let o = c.ready-group.new.self.ledger.tables in
     let sound = c.ready-group.ensures.ready.settled.sound in
     let few = subst (λ (y : Tables). y.shape.servers ≤ 8) (sym c.place-done.ensures.tables) (shape_bounds o.shape sound.shape).5 in
-    let fits = subst Fit (sym c.group-of.ensures) (left_fits o c.args.page (page_state o c.args.page) sound refl) in
+    let fits = subst Fit (sym c.group_of.ensures) (left_fits o c.args.page (page_state o c.args.page) sound refl) in
     (c.place-done.ensures.order, (fits, (few, c.place-done.ensures.linked)))
 
 pub judge-requires : goal.judge-requires
 judge-requires g c =
     let o = c.ready-group.new.self.ledger.tables in
     let t = c.place-done.new.self.ledger.tables in
-    let w = c.release-old.new.self.ledger.tables in
-    let u = c.close-full.new.self.ledger.tables in
+    let w = c.release_old.new.self.ledger.tables in
+    let u = c.close_full.new.self.ledger.tables in
     let p = c.args.page in
     let n = c.ready-group.result in
     let x = c.args.bytes.now in
     let r = c.ready-group.ensures in
     let below = subst (λ (y : Shape). p < capacity y) (sym r.shape) c.requires.1.1.1 in
-    let is-w = c.release-old.ensures.tables ∙ ap (λ (l : Option ℕ). released_old l t) c.group-of.ensures in
-    let settled = out_settles o t w u n p x r.ready.settled r.ready.open_now below c.place-done.ensures.tables is-w c.close-full.ensures.tables in
-    let shape = out_shape o t w u n p x r.ready.settled r.ready.open_now below c.place-done.ensures.tables is-w c.close-full.ensures.tables in
-    let there = out_there o t w u n p x r.ready.settled r.ready.open_now below c.place-done.ensures.tables is-w c.close-full.ensures.tables in
-    (c.close-full.ensures.order, (c.close-full.ensures.linked, (settled, (subst (λ (y : Shape). p < capacity y) (sym shape) below, there))))
+    let is-w = c.release_old.ensures.tables ∙ ap (λ (l : Option ℕ). released_old l t) c.group_of.ensures in
+    let settled = out_settles o t w u n p x r.ready.settled r.ready.open_now below c.place-done.ensures.tables is-w c.close_full.ensures.tables in
+    let shape = out_shape o t w u n p x r.ready.settled r.ready.open_now below c.place-done.ensures.tables is-w c.close_full.ensures.tables in
+    let there = out_there o t w u n p x r.ready.settled r.ready.open_now below c.place-done.ensures.tables is-w c.close_full.ensures.tables in
+    (c.close_full.ensures.order, (c.close_full.ensures.linked, (settled, (subst (λ (y : Shape). p < capacity y) (sym shape) below, there))))
 
 pub returns-then-done : goal.returns-then-done
 returns-then-done g c =
     let o = c.ready-group.new.self.ledger.tables in
     let t = c.place-done.new.self.ledger.tables in
-    let w = c.release-old.new.self.ledger.tables in
-    let u = c.close-full.new.self.ledger.tables in
+    let w = c.release_old.new.self.ledger.tables in
+    let u = c.close_full.new.self.ledger.tables in
     let p = c.args.page in
     let n = c.ready-group.result in
     let x = c.args.bytes.now in
     let r = c.ready-group.ensures in
     let below = subst (λ (y : Shape). p < capacity y) (sym r.shape) c.requires.1.1.1 in
-    let is-w = c.release-old.ensures.tables ∙ ap (λ (l : Option ℕ). released_old l t) c.group-of.ensures in
+    let is-w = c.release_old.ensures.tables ∙ ap (λ (l : Option ℕ). released_old l t) c.group_of.ensures in
     let steps = g.B.Bank.steps in
-    let frees = subst (λ (l : Option ℕ). Ends steps (release_old l t) c.place-done.new.self.bank w c.release-old.new.self.bank) c.group-of.ensures c.release-old.ensures.ran in
-    let e = c.close-full.new.self.bank in
+    let frees = subst (λ (l : Option ℕ). Ends steps (release_old l t) c.place-done.new.self.bank w c.release_old.new.self.bank) c.group_of.ensures c.release_old.ensures.ran in
+    let e = c.close_full.new.self.bank in
     record {
-      order = c.close-full.ensures.order;
-      linked = c.close-full.ensures.linked;
-      settled = out_settles o t w u n p x r.ready.settled r.ready.open_now below c.place-done.ensures.tables is-w c.close-full.ensures.tables;
-      shape = out_shape o t w u n p x r.ready.settled r.ready.open_now below c.place-done.ensures.tables is-w c.close-full.ensures.tables ∙ r.shape;
-      ran = paged steps c.args.self.now.ledger.tables o t w u p n x true (told (Ok tt) u) c.args.self.now.bank _ _ _ e e r.ran c.if-done.ensures.ran frees c.close-full.ensures.ran (done_ends steps u p n o.filled e e);
+      order = c.close_full.ensures.order;
+      linked = c.close_full.ensures.linked;
+      settled = out_settles o t w u n p x r.ready.settled r.ready.open_now below c.place-done.ensures.tables is-w c.close_full.ensures.tables;
+      shape = out_shape o t w u n p x r.ready.settled r.ready.open_now below c.place-done.ensures.tables is-w c.close_full.ensures.tables ∙ r.shape;
+      ran = paged steps c.args.self.now.ledger.tables o t w u p n x true (told (Ok tt) u) c.args.self.now.bank _ _ _ e e r.ran c.if-done.ensures.ran frees c.close_full.ensures.ran (done_ends steps u p n o.filled e e);
     }
 
 pub returns-else-done : goal.returns-else-done
 returns-else-done g c =
     let o = c.ready-group.new.self.ledger.tables in
     let t = c.place-done.new.self.ledger.tables in
-    let w = c.release-old.new.self.ledger.tables in
-    let u = c.close-full.new.self.ledger.tables in
+    let w = c.release_old.new.self.ledger.tables in
+    let u = c.close_full.new.self.ledger.tables in
     let p = c.args.page in
     let n = c.ready-group.result in
     let x = c.args.bytes.now in
     let r = c.ready-group.ensures in
     let below = subst (λ (y : Shape). p < capacity y) (sym r.shape) c.requires.1.1.1 in
-    let is-w = c.release-old.ensures.tables ∙ ap (λ (l : Option ℕ). released_old l t) c.group-of.ensures in
+    let is-w = c.release_old.ensures.tables ∙ ap (λ (l : Option ℕ). released_old l t) c.group_of.ensures in
     let steps = g.B.Bank.steps in
-    let frees = subst (λ (l : Option ℕ). Ends steps (release_old l t) c.place-done.new.self.bank w c.release-old.new.self.bank) c.group-of.ensures c.release-old.ensures.ran in
+    let frees = subst (λ (l : Option ℕ). Ends steps (release_old l t) c.place-done.new.self.bank w c.release_old.new.self.bank) c.group_of.ensures c.release_old.ensures.ran in
     let end = c.judge.ensures in
     record {
       order = end.order;
       linked = end.linked;
       settled = end.settled;
-      shape = end.shape ∙ out_shape o t w u n p x r.ready.settled r.ready.open_now below c.place-done.ensures.tables is-w c.close-full.ensures.tables ∙ r.shape;
-      ran = paged steps c.args.self.now.ledger.tables o t w u p n x false _ c.args.self.now.bank _ _ _ _ _ r.ran c.if-done.ensures.ran frees c.close-full.ensures.ran end.ran;
+      shape = end.shape ∙ out_shape o t w u n p x r.ready.settled r.ready.open_now below c.place-done.ensures.tables is-w c.close_full.ensures.tables ∙ r.shape;
+      ran = paged steps c.args.self.now.ledger.tables o t w u p n x false _ c.args.self.now.bank _ _ _ _ _ r.ran c.if-done.ensures.ran frees c.close_full.ensures.ran end.ran;
     }

@@ -9,23 +9,23 @@ use Rattle.pager.proofs.PageoutWays.{out_places}
 use Rattle.pager.proofs.PageinLaws.{admitted, pagein_refused, pagein_none, pagein_lost, pagein_found, pagein_missed}
 use Rattle.pager.proofs.Pager.pagein.Goals as goal
 
-pub returns-in-err-admit : goal.returns-in-err-admit
-returns-in-err-admit g c =
+pub returns-in_err-admit : goal.returns-in_err-admit
+returns-in_err-admit g c =
     let b = c.args.self.now.bank in
     let p = err_from_is_err_and c.from-residual.result c.from-residual.ensures.1 in
-    let out = pagein_refused g.B.Bank.steps c.args.self.now.ledger.tables c.args.page _ b b c.args.buffer.now c.from-residual.result _ p.0 p.1 p.2 c.in-err-admit.ensures in
+    let out = pagein_refused g.B.Bank.steps c.args.self.now.ledger.tables c.args.page _ b b c.args.buffer.now c.from-residual.result _ p.0 p.1 p.2 c.in_err-admit.ensures in
     record { order = c.requires; ran = out.0; tables = refl; left = out.1 }
 
 pub bounds-self-page : goal.bounds-self-page
 bounds-self-page g c =
     let v = c.args.self.now.ledger.tables in
-    let a = admitted v c.args.page _ c.in-ok-admit.ensures in
+    let a = admitted v c.args.page _ c.in_ok-admit.ensures in
     omega (arith, a.1, capacity_fits v.shape a.0)
 
 pub read-requires : goal.read-requires
 read-requires g c =
     let v = c.args.self.now.ledger.tables in
-    let a = admitted v c.args.page _ c.in-ok-admit.ensures in
+    let a = admitted v c.args.page _ c.in_ok-admit.ensures in
     let sound = (c.requires.tables.made a.0).sound in
     let fits = out_places v c.args.page c.in-Out.group c.in-Out.position sound c.in-Out.is in
     (c.requires.bank, (fits.0, (fits.1, (sound_limits v sound, a.2))))
@@ -35,7 +35,7 @@ returns-in-NotOut g c =
     let b = c.args.self.now.bank in
     record {
       order = c.requires;
-      ran = pagein_none g.B.Bank.steps c.args.self.now.ledger.tables c.args.page _ b b c.in-ok-admit.ensures c.of-page.result (c.of-page.ensures ∙ ap (of_page c.args.page) c.new.ensures) c.in-NotOut.is;
+      ran = pagein_none g.B.Bank.steps c.args.self.now.ledger.tables c.args.page _ b b c.in_ok-admit.ensures c.of_page.result (c.of_page.ensures ∙ ap (of_page c.args.page) c.new.ensures) c.in-NotOut.is;
       tables = refl;
       left = refl;
     }
@@ -45,7 +45,7 @@ returns-in-Lost g c =
     let b = c.args.self.now.bank in
     record {
       order = c.requires;
-      ran = pagein_lost g.B.Bank.steps c.args.self.now.ledger.tables c.args.page _ b b c.in-ok-admit.ensures c.lost.result c.in-Lost.group c.in-Lost.missing c.lost.ensures c.in-Lost.is;
+      ran = pagein_lost g.B.Bank.steps c.args.self.now.ledger.tables c.args.page _ b b c.in_ok-admit.ensures c.lost.result c.in-Lost.group c.in-Lost.missing c.lost.ensures c.in-Lost.is;
       tables = refl;
       left = refl;
     }
@@ -59,7 +59,7 @@ returns-in-Ok g c =
     let run = c.in-Ok.ensures.ran in
     record {
       order = ends_kept bank.count bank.means bank.order bank.steps bank.laws old e (read v c.in-Out.group c.in-Out.position) _ c.requires run;
-      ran = pagein_found bank.steps v c.args.page _ old.bank e c.in-ok-admit.ensures c.in-Out.group c.in-Out.position c.read.new.buffer c.in-Out.is run;
+      ran = pagein_found bank.steps v c.args.page _ old.bank e c.in_ok-admit.ensures c.in-Out.group c.in-Out.position c.read.new.buffer c.in-Out.is run;
       tables = refl;
       left = tt;
     }
@@ -73,7 +73,7 @@ returns-in-Err g c =
     let run = c.in-Err.ensures.ran in
     record {
       order = ends_kept bank.count bank.means bank.order bank.steps bank.laws old e (read v c.in-Out.group c.in-Out.position) _ c.requires run;
-      ran = pagein_missed bank.steps v c.args.page _ old.bank e c.in-ok-admit.ensures c.lost-in-Err.result c.in-Out.group c.in-Out.position c.in-Err.missing c.lost-in-Err.ensures c.in-Out.is run;
+      ran = pagein_missed bank.steps v c.args.page _ old.bank e c.in_ok-admit.ensures c.lost-in-Err.result c.in-Out.group c.in-Out.position c.in-Err.missing c.lost-in-Err.ensures c.in-Out.is run;
       tables = refl;
       left = c.in-Err.ensures.left;
     }

@@ -17,5 +17,5 @@ returns g c =
       order = c.put-answer.ensures.order;
       linked = c.add.ensures.linked c.set_page.ensures.linked;
       tables = after;
-      ran = ends_as steps (place v c.args.group c.args.page x) b c.put-answer.new.self _ (placed_as c.is-ok.result c.add.new.self.tables) (ap₂ placed_as (sym c.is-ok.ensures.value) (sym after)) (places steps v c.args.group b c.put-answer.new.self c.args.page x c.put-answer.result c.put-answer.ensures.steps);
+      ran = ends_as steps (place v c.args.group c.args.page x) b c.put-answer.new.self _ (placed_as c.is_ok.result c.add.new.self.tables) (ap₂ placed_as (sym c.is_ok.ensures.value) (sym after)) (places steps v c.args.group b c.put-answer.new.self c.args.page x c.put-answer.result c.put-answer.ensures.steps);
     }

@@ -7,7 +7,7 @@ pub returns-in-Some : goal.returns-in-Some
 returns-in-Some g c =
     let v = c.args.self.now.ledger.tables in
     let b = c.args.self.now.bank in
-    let is = sym c.open-group.ensures ∙ c.in-Some.is in
+    let is = sym c.open_group.ensures ∙ c.in-Some.is in
     record {
       order = c.requires.0;
       linked = c.requires.1.0;
@@ -19,11 +19,11 @@ returns-in-Some g c =
 pub returns-in-None : goal.returns-in-None
 returns-in-None g c =
     let v = c.args.self.now.ledger.tables in
-    let out = c.open-next.ensures in
+    let out = c.open_next.ensures in
     record {
       order = out.order;
       linked = out.linked;
       ready = out.ready;
       shape = out.shape;
-      ran = none_open g.B.Bank.steps v (open_group v) c.args.self.now.bank c.open-next.new.self.bank _ (sym c.open-group.ensures ∙ c.in-None.is) out.ran;
+      ran = none_open g.B.Bank.steps v (open_group v) c.args.self.now.bank c.open_next.new.self.bank _ (sym c.open_group.ensures ∙ c.in-None.is) out.ran;
     }

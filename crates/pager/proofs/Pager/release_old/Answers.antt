@@ -14,8 +14,8 @@ returns-else-unused g c =
     let out = leaves_used g.B.Bank.steps c.args.self.now.ledger.tables b b c.args.old c.in-Some.group c.in-Some.is (sym c.if-unused.ensures) in
     record { order = c.requires.0; linked = c.requires.1.1.1; tables = out.1; ran = out.0 }
 
-pub returns-in-default : goal.returns-in-default
-returns-in-default g c =
+pub returns-in_default : goal.returns-in_default
+returns-in_default g c =
     let b = c.args.self.now.bank in
-    let out = leaves_none g.B.Bank.steps c.args.self.now.ledger.tables b b c.args.old c.in-default.is in
+    let out = leaves_none g.B.Bank.steps c.args.self.now.ledger.tables b b c.args.old c.in_default.is in
     record { order = c.requires.0; linked = c.requires.1.1.1; tables = out.1; ran = out.0 }

@@ -6,15 +6,15 @@ use Rattle.pager.proofs.AskingLaws.{weight_small}
 use Rattle.pager.proofs.ReadLaws.{read_own, read_restored, read_missed}
 use Rattle.pager.proofs.reading.read.Goals as goal
 
-pub returns-in-default : goal.returns-in-default
-returns-in-default g c = record {
+pub returns-in_default : goal.returns-in_default
+returns-in_default g c = record {
   order = c.get.ensures.order;
-  ran = read_own g.B.Bank.steps c.args.tables.now c.args.group c.args.position _ c.requires.1.1.1.1 _ _ _ c.in-default.ensures.steps;
+  ran = read_own g.B.Bank.steps c.args.tables.now c.args.group c.args.position _ c.requires.1.1.1.1 _ _ _ c.in_default.ensures.steps;
   left = tt;
 }
 
-pub overflow-add-result : goal.overflow-add-result
-overflow-add-result g c = Fits-of_lt (omega (arith, c.gather-missing.ensures.few, weight_small c.args.tables.now.shape.servers c.args.position (omega arith), c.weight.ensures))
+pub overflow_add-result : goal.overflow_add-result
+overflow_add-result g c = Fits-of_lt (omega (arith, c.gather-missing.ensures.few, weight_small c.args.tables.now.shape.servers c.args.position (omega arith), c.weight.ensures))
 
 pub returns-then-missing-ne0 : goal.returns-then-missing-ne0
 returns-then-missing-ne0 g c =
@@ -32,6 +32,6 @@ returns g c =
     let run = read_restored steps c.args.tables.now c.args.group c.args.position _ c.requires.1.1.1.1 _ _ _ _ c.in-Err.ensures.steps _ _ c.gather-missing.ensures.ran c.if-missing-ne0.false in
     record {
       order = c.gather-missing.ensures.order;
-      ran = subst (λ (x : List ℕ). Ends steps (read c.args.tables.now c.args.group c.args.position) c.args.bank.now (found x) c.gather-missing.new.bank) (sym c.copy-from-slice.ensures.after) run;
+      ran = subst (λ (x : List ℕ). Ends steps (read c.args.tables.now c.args.group c.args.position) c.args.bank.now (found x) c.gather-missing.new.bank) (sym c.copy_from_slice.ensures.after) run;
       left = tt;
     }
