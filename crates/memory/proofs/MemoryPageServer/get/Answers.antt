@@ -12,6 +12,6 @@ returns c =
     let x = store_of c.args.self.now in
     record {
       order = c.requires;
-      steps = (record { says = read_says x c.args.slot _ _ c.if-buffer-ne-PAGE-SIZE.false (omega arith) c.if-not-self.false c.if-not-self-slot.false c.read.ensures; leaves = refl }, refl);
+      steps = (record { says = read_says x c.args.slot _ _ c.if-buffer-ne-PAGE_SIZE.false (omega arith) c.if-not-self.false c.if-not-self-slot.false c.read.ensures; leaves = refl }, refl);
       left = tt;
     }
