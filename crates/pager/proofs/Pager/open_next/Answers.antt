@@ -14,41 +14,41 @@ pub open-requires : goal.open-requires
 open-requires g c =
     let v = c.args.self.now.ledger.tables in
     let s = c.requires.1.1.0.sound in
-    omega (arith, (shape_bounds v.shape s.shape).1, (next_free_lem v c.next-free_group.result s c.next-free_group.ensures).0)
+    omega (arith, (shape_bounds v.shape s.shape).1, (next_free_lem v c.next_free-group.result s c.next_free-group.ensures).0)
 
 pub returns-then-free_count-gt1 : goal.returns-then-free_count-gt1
 returns-then-free_count-gt1 g c =
     let v = c.args.self.now.ledger.tables in
-    let n = c.next-free_group.result in
+    let n = c.next_free-group.result in
     let more : 1 < free_count v = subst (λ k. 1 < k) c.free_count.ensures c.if-free_count-gt1.true in
-    let r = open_next v n c.requires.1.1.0 c.requires.1.1.1 c.next-free_group.ensures more in
+    let r = open_next v n c.requires.1.1.0 c.requires.1.1.1 c.next_free-group.ensures more in
     let now = c.open.ensures.tables in
     record {
       order = c.requires.0;
       linked = c.open.ensures.linked c.requires.1.0;
       ready = subst (λ (w : Tables). Ready w n) (sym now) (record { settled = r.0; open_now = r.1 });
       shape = ap (λ (w : Tables). w.shape) now;
-      ran = opens_next g.B.Bank.steps v n c.args.self.now.bank c.args.self.now.bank c.next-free_group.ensures c.open.new.self.tables more now;
+      ran = opens_next g.B.Bank.steps v n c.args.self.now.bank c.args.self.now.bank c.next_free-group.ensures c.open.new.self.tables more now;
     }
 
 pub open-requires-2 : goal.open-requires-2
 open-requires-2 g c =
     let v = c.args.self.now.ledger.tables in
     let s = c.requires.1.1.0.sound in
-    omega (arith, (shape_bounds v.shape s.shape).1, (next_free_lem v c.next-free_group.result s c.next-free_group.ensures).0)
+    omega (arith, (shape_bounds v.shape s.shape).1, (next_free_lem v c.next_free-group.result s c.next_free-group.ensures).0)
 
 pub clean-requires : goal.clean-requires
 clean-requires g c =
     let v = c.args.self.now.ledger.tables in
-    let n = c.next-free_group.result in
+    let n = c.next_free-group.result in
     let one : free_count v ≤ 1 = subst (λ k. k ≤ 1) c.free_count.ensures c.if-free_count-gt1.false in
-    let r = last_opened v n c.in-Some.from c.fewest_live-fewest.result c.requires.1.1.0 c.requires.1.1.1 c.next-free_group.ensures one c.fewest_live-fewest.ensures c.in-Some.is in
+    let r = last_opened v n c.in-Some.from c.fewest_live-fewest.result c.requires.1.1.0 c.requires.1.1.1 c.next_free-group.ensures one c.fewest_live-fewest.ensures c.in-Some.is in
     (c.requires.0, (c.open-2.ensures.linked c.requires.1.0, subst (λ (w : Tables). Cleaning w n c.in-Some.from 0) (sym c.open-2.ensures.tables) r.1))
 
 pub returns-in-Some : goal.returns-in-Some
 returns-in-Some g c =
     let v = c.args.self.now.ledger.tables in
-    let n = c.next-free_group.result in
+    let n = c.next_free-group.result in
     let b = c.args.self.now.bank in
     let steps = g.B.Bank.steps in
     let one : free_count v ≤ 1 = subst (λ k. k ≤ 1) c.free_count.ensures c.if-free_count-gt1.false in
@@ -61,11 +61,11 @@ returns-in-Some g c =
       linked = out.linked;
       ready = out.ready;
       shape = out.shape ∙ ap (λ (w : Tables). w.shape) now;
-      ran = opens_last steps v n b c.clean.new.self.bank c.next-free_group.ensures c.in-Some.from c.clean.new.self.ledger.tables one few run;
+      ran = opens_last steps v n b c.clean.new.self.bank c.next_free-group.ensures c.in-Some.from c.clean.new.self.ledger.tables one few run;
     }
 
 pub returns-in_default : goal.returns-in_default
 returns-in_default g c =
     let v = c.args.self.now.ledger.tables in
     let one : free_count v ≤ 1 = subst (λ k. k ≤ 1) c.free_count.ensures c.if-free_count-gt1.false in
-    some_fewest v c.next-free_group.result c.fewest_live-fewest.result c.requires.1.1.0 c.requires.1.1.1 c.next-free_group.ensures one c.fewest_live-fewest.ensures c.in_default.is
+    some_fewest v c.next_free-group.result c.fewest_live-fewest.result c.requires.1.1.0 c.requires.1.1.1 c.next_free-group.ensures one c.fewest_live-fewest.ensures c.in_default.is

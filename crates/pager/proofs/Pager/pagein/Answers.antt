@@ -12,8 +12,8 @@ use Rattle.pager.proofs.Pager.pagein.Goals as goal
 pub returns-in_err-admit : goal.returns-in_err-admit
 returns-in_err-admit g c =
     let b = c.args.self.now.bank in
-    let p = err_from_is_err_and c.from-residual.result c.from-residual.ensures.1 in
-    let out = pagein_refused g.B.Bank.steps c.args.self.now.ledger.tables c.args.page _ b b c.args.buffer.now c.from-residual.result _ p.0 p.1 p.2 c.in_err-admit.ensures in
+    let p = err_from_is_err_and c.from_residual.result c.from_residual.ensures.1 in
+    let out = pagein_refused g.B.Bank.steps c.args.self.now.ledger.tables c.args.page _ b b c.args.buffer.now c.from_residual.result _ p.0 p.1 p.2 c.in_err-admit.ensures in
     record { order = c.requires; ran = out.0; tables = refl; left = out.1 }
 
 pub bounds-self-page : goal.bounds-self-page
