@@ -8,7 +8,7 @@ use Rattle.parity_log.specs.declared.records.Tables.{Tables}
 use Rattle.parity_log.specs.Tables.{state_of, page_state, is_free, page_at}
 use Rattle.parity_log.specs.Choices.{open_group, start, first_in, next_free, free_count, fewest_live}
 use Rattle.parity_log.specs.Order.{Sound, Settled, Cleaning}
-use Rattle.parity_log.specs.Paging.{opened, placed, place, release, moved, move, move_all, clean, Ready, ready, open_next_rule, with_open}
+use Rattle.parity_log.specs.Paging.{opened, place, release, moved, move, move_all, clean, Ready, ready, open_next_rule, with_open}
 use Rattle.parity_log.specs.Reading.{Finding, Reading, found as gives, missed, read}
 use Rattle.parity_log.specs.Rule.{give, Runs}
 use Rattle.parity_log.proofs.Bounds.{shape_bounds}

@@ -1,15 +1,15 @@
 -- The memory server's rule is one of a page server.
-use Rattle.std.specs.Prelude.{◌≡◌, ℕ, zero, suc, ◌+◌, ◌-◌, ◌*◌, ◌/◌, ◌<◌, ◌≤◌, min, Bool, true, false, cond, ◌≢◌, ◌⊎◌, List, length, get_or, take, drop, set, replicate, Ok, ◌==◌, nat_lt, slice_index_or, slice_set, refl}
+use Rattle.std.specs.Prelude.{◌≡◌, ℕ, zero, suc, ◌+◌, ◌-◌, ◌*◌, ◌/◌, ◌<◌, ◌≤◌, min, Bool, true, false, cond, ◌≢◌, List, length, get_or, take, drop, replicate, Ok, ◌==◌, nat_lt, slice_index_or, slice_set, refl}
 use Rattle.std.proofs.Common.{sym, ap, subst, ◌∙◌, inl, inr, arith, length-set, length-append, length-take, length-drop, get_or-set_same, get_or-set_other, eq-eqb, ne_eqb, lt-ltb, le-ltb, ltb-true, ltb-false, eqb-true}
 use Rattle.std.proofs.lemmas.Bool.{eqb-false}
 use Rattle.std.proofs.lemmas.Slice.{between-put_mid, between_is, take-put_mid_below, drop-put_mid}
 use Rattle.page.specs.declared.faults.Layer.TheVariants.{Server}
-use Rattle.server.specs.Meaning.{Held, nothing, holds, Meaning, Sound, Empty}
-use Rattle.server.specs.Calls.{Call, to_put, to_get, to_free, Answer}
-use Rattle.server.specs.Steps.{Step, Lawful, Gets, Fine}
-use Rattle.server.specs.Pulls.{Falls, Backs}
+use Rattle.server.specs.Meaning.{nothing, holds, Sound, Empty}
+use Rattle.server.specs.Calls.{Call, to_put, to_get, to_free}
+use Rattle.server.specs.Steps.{Step, Lawful, Gets}
+use Rattle.server.specs.Pulls.{Falls}
 use Rattle.memory.specs.Store.{Store, slots, held_at, page_at, meant, no_flags, last_era, empty, Ordered}
-use Rattle.memory.specs.Rule.{written, refuses, says, reaches, flagged, after, Stepped, fallen, worn_out, says_back, revived}
+use Rattle.memory.specs.Rule.{written, refuses, says, reaches, flagged, after, Stepped, fallen}
 use Rattle.page.specs.declared.faults.Refusal.TheVariants.{None}
 
 -- a slot lies within the bytes

@@ -1,5 +1,5 @@
 -- A memory server as plain values: the lent bytes, a flag for each slot, whether it is up, and its era.
-use Rattle.std.specs.Prelude.{◌≡◌, ℕ, ◌+◌, ◌*◌, ◌/◌, ◌<◌, ◌≤◌, min, Bool, true, false, cond, List, length, take, drop, replicate, nat_lt, slice_index_or}
+use Rattle.std.specs.Prelude.{◌≡◌, ℕ, ◌*◌, ◌/◌, ◌<◌, min, Bool, true, false, cond, List, length, take, drop, replicate, nat_lt, slice_index_or}
 use Rattle.server.specs.Meaning.{Held, nothing, holds, Meaning}
 use Rattle.memory.specs.declared.Memory.{Memory}
 

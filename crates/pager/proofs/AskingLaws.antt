@@ -1,15 +1,15 @@
 -- Asking the members of a group, turn by turn.
-use Rattle.std.proofs.Common.{◌≡◌, ℕ, zero, suc, ◌+◌, ◌-◌, ◌^◌, ◌<◌, ◌≤◌, Bool, true, false, cond, not, eqb, List, [], ◌∷◌, Ok, Err, filter, Result, refl, ap, ◌∙◌, subst, ap₂, add-zero, zero-add, arith, pow_mono, eq-eqb, ne_eqb, eqb-true}
+use Rattle.std.proofs.Common.{◌≡◌, ℕ, suc, ◌+◌, ◌-◌, ◌^◌, ◌<◌, ◌≤◌, Bool, true, false, cond, not, eqb, List, [], ◌∷◌, Ok, Err, filter, Result, refl, ap, ◌∙◌, subst, ap₂, add-zero, zero-add, arith, pow_mono, eq-eqb, ne_eqb, eqb-true}
 use borrow.Author.Tests.{eqb-false}
 use Rattle.std.proofs.lemmas.Nat.{pow-add}
 use Rattle.std.specs.List.{range_with_len}
 use Rattle.page.specs.declared.faults.Fault.{Fault}
-use Rattle.server.specs.Calls.{Call, Answer, to_get}
+use Rattle.server.specs.Calls.{to_get}
 use Rattle.bank.specs.Rows.{RowRule}
-use Rattle.parity_log.specs.Rule.{Rule, give, ask, Ends}
+use Rattle.parity_log.specs.Rule.{Ends}
 use Rattle.parity_log.specs.declared.records.Tables.{Tables}
 use Rattle.parity_log.specs.Tables.{member_count_of, state_of, weight}
-use Rattle.parity_log.specs.Reading.{LogRule, Gathered, asking, added, refusers, gather, kept}
+use Rattle.parity_log.specs.Reading.{LogRule, Gathered, asking, refusers, gather, kept}
 use Rattle.parity_log.proofs.RuleLaws.{Leads, leads_ask, leads_give}
 use Rattle.pager.specs.Reads.{AskedOne, gathered}
 

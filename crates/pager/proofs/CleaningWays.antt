@@ -5,7 +5,7 @@ use Rattle.bank.specs.Rows.{RowRule}
 use Rattle.parity_log.specs.declared.records.Tables.{Tables}
 use Rattle.parity_log.specs.declared.ledger.Ledger.{Ledger}
 use Rattle.parity_log.specs.declared.records.PageState.TheVariants.{Out, Lost}
-use Rattle.parity_log.specs.Rule.{Rule, give, note, Ends}
+use Rattle.parity_log.specs.Rule.{give, Ends}
 use Rattle.parity_log.specs.declared.records.GroupState.{GroupState}
 use Rattle.parity_log.specs.declared.records.GroupState.TheVariants.{Free, Open, Closed}
 use Rattle.parity_log.specs.Tables.{with_page, page_at, state_of, is_open}

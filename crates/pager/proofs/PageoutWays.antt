@@ -1,19 +1,17 @@
 -- The ways through a pageout, and what it leaves.
-use Rattle.std.proofs.Common.{◌≡◌, ℕ, ◌+◌, ◌-◌, ◌<◌, ◌≤◌, Bool, true, false, cond, eqb, List, length, get_or, set, Some, None, Ok, Err, Option, Result, sym, refl, ap, ◌∙◌, subst, arith, get_or-set_same, eq-eqb, ne_eqb}
-use Rattle.page.specs.declared.faults.Fault.{Fault}
+use Rattle.std.proofs.Common.{◌≡◌, ℕ, ◌+◌, ◌-◌, ◌<◌, Bool, true, false, cond, eqb, List, length, get_or, set, Some, None, Ok, Err, sym, refl, ap, ◌∙◌, subst, arith, get_or-set_same, eq-eqb, ne_eqb}
 use Rattle.bank.specs.Rows.{RowRule}
 use Rattle.parity_log.specs.declared.records.PageState.{PageState}
 use Rattle.parity_log.specs.declared.records.PageState.TheVariants.{NotOut, Out, Lost}
 use Rattle.parity_log.specs.declared.records.GroupState.TheVariants.{Open}
-use Rattle.parity_log.specs.declared.records.Shape.{Shape}
 use Rattle.parity_log.specs.declared.records.Tables.{Tables}
 use Rattle.parity_log.specs.Rule.{give, Ends}
 use Rattle.parity_log.specs.Choices.{open_group}
 use Rattle.parity_log.specs.Faults.{lost_page}
 use Rattle.parity_log.specs.Tables.{capacity, weight, page_state, state_of, with_page, group_of}
 use Rattle.parity_log.specs.Order.{Sound, Settled, Leaving}
-use Rattle.parity_log.specs.Reading.{Gathered, gather, restored, Reading, found, missed}
-use Rattle.parity_log.specs.Paging.{Told, told, Ready, ready, with_open, Placed, place, placed, release_old, released_old, close_full, closed_full, shut, judged, ending, steps}
+use Rattle.parity_log.specs.Reading.{gather, restored}
+use Rattle.parity_log.specs.Paging.{Told, told, ready, with_open, place, placed, release_old, released_old, close_full, closed_full, shut, judged, ending, steps}
 use Rattle.parity_log.proofs.Bounds.{shape_bounds, capacity_fits}
 use Rattle.parity_log.proofs.Keeping.{lose_leaves, place_leaves, release_settles, release_open, release_same, close_settles}
 use Rattle.parity_log.proofs.RuleLaws.{ends_bind, ends_give, ends_note}

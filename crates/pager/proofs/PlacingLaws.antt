@@ -1,15 +1,15 @@
 -- The ways through placing, releasing and closing.
-use Rattle.std.proofs.Common.{◌≡◌, ℕ, ◌+◌, ◌-◌, ◌<◌, ◌≤◌, Bool, true, false, List, is_ok, Some, None, Option, Result, sym, refl, ap, ◌∙◌, subst, arith, eq-eqb, ne_eqb}
+use Rattle.std.proofs.Common.{◌≡◌, ℕ, ◌+◌, ◌-◌, ◌<◌, ◌≤◌, true, false, List, is_ok, Some, None, Option, Result, refl, subst, arith, eq-eqb, ne_eqb}
 use Rattle.std.specs.List.{range_with_len}
 use Rattle.page.specs.declared.faults.Fault.{Fault}
 use Rattle.server.specs.Calls.{to_put, to_free}
 use Rattle.bank.specs.Rows.{RowRule}
 use Rattle.parity_log.specs.declared.records.Tables.{Tables}
 use Rattle.parity_log.specs.declared.records.GroupState.TheVariants.{Free}
-use Rattle.parity_log.specs.Rule.{Rule, give, ask, Ends}
+use Rattle.parity_log.specs.Rule.{give, Ends}
 use Rattle.parity_log.specs.Tables.{with_state}
 use Rattle.parity_log.specs.Reading.{LogRule}
-use Rattle.parity_log.specs.Paging.{Placed, place, placed, free_on, release, release_old, released_old, unused, close_full, closed_full, shut}
+use Rattle.parity_log.specs.Paging.{place, placed, free_on, release, release_old, released_old, unused, close_full, closed_full, shut}
 use Rattle.parity_log.proofs.RuleLaws.{Leads, leads_ask, leads_give, ends_ask, ends_give}
 use Rattle.pager.specs.Places.{placed_as}
 use Rattle.pager.proofs.AskingLaws.{span_more, span_none}

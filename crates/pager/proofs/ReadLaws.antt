@@ -1,12 +1,12 @@
 -- The ways through the reading of a position.
-use Rattle.std.proofs.Common.{◌≡◌, ℕ, ◌+◌, true, false, List, Ok, Err, Result, subst, eq-eqb, ne_eqb}
+use Rattle.std.proofs.Common.{◌≡◌, ℕ, ◌+◌, List, Ok, Err, Result, subst, eq-eqb, ne_eqb}
 use Rattle.page.specs.declared.faults.Fault.{Fault}
 use Rattle.server.specs.Calls.{to_get}
 use Rattle.bank.specs.Rows.{RowRule}
 use Rattle.parity_log.specs.declared.records.Tables.{Tables}
 use Rattle.parity_log.specs.Rule.{give, Ends}
 use Rattle.parity_log.specs.Tables.{weight}
-use Rattle.parity_log.specs.Reading.{Gathered, gather, read, restored, found, missed, or_restored}
+use Rattle.parity_log.specs.Reading.{gather, read, restored, found, missed, or_restored}
 use Rattle.parity_log.proofs.RuleLaws.{ends_bind, ends_give, ends_ask}
 use Rattle.pager.specs.Reads.{gathered}
 

@@ -1,5 +1,5 @@
 -- What the reading of members comes to in the code.
-use Rattle.std.specs.Prelude.{◌≡◌, ℕ, ◌+◌, ◌<◌, ◌≤◌, List, Ok, Err, Result}
+use Rattle.std.specs.Prelude.{◌≡◌, ℕ, ◌≤◌, List, Ok, Err, Result}
 use Rattle.page.specs.declared.faults.Fault.{Fault}
 use Rattle.server.specs.Calls.{to_get}
 use Rattle.bank.specs.Rows.{RowRule}

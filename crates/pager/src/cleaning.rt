@@ -11,8 +11,8 @@ ghost use Rattle.std.specs.List.{range_with_len};
 use crate::Pager;
 use crate::reading::read;
 use bank::Bank;
-use parity_log::PageState;
 use page::Page;
+use parity_log::PageState;
 
 impl<B: Bank> Pager<B> {
     // Moves the page at a position of the group being cleaned, if one is out there; one that can't be read becomes lost.

@@ -6,8 +6,8 @@ ghost use Rattle.std.specs.List.{list_all};
 
 use crate::Pager;
 use bank::Bank;
-use parity_log::{Ledger, Shape};
 use page::{Fault, Layer, Refusal};
+use parity_log::{Ledger, Shape};
 
 impl<B: Bank> Pager<B> {
     // A pager that is not made yet: it has a shape that no pager can have.

@@ -8,8 +8,8 @@ ghost use Rattle.std.specs.Prelude.{◌≡◌, length};
 use crate::Pager;
 use crate::reading::read;
 use bank::Bank;
-use parity_log::PageState;
 use page::{Fault, Layer, Refusal};
+use parity_log::PageState;
 
 // The fault of a page that is lost, with the members that were missing in its group.
 pub fn lost(page: usize, group: usize, missing: u16) -> Fault

@@ -11,8 +11,8 @@ use crate::Pager;
 use crate::pagein::lost;
 use crate::reading::{gather, kept_page, weight};
 use bank::Bank;
-use parity_log::PageState;
 use page::{Fault, Layer, PAGE_SIZE, Refusal};
+use parity_log::PageState;
 
 // The group that a page is out at.
 fn group_of(state: PageState) -> Option<usize>

@@ -12,8 +12,8 @@ ghost use Rattle.std.specs.List.{range_with_len};
 
 use crate::Pager;
 use bank::Bank;
-use parity_log::PageState;
 use page::PAGE_SIZE;
+use parity_log::PageState;
 
 // Frees a group's slot on every server, the parity server last.
 fn free_slots<B: Bank>(bank: &mut B, servers: usize, group: usize)

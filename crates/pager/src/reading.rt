@@ -5,8 +5,8 @@ ghost use Rattle.parity_log.specs.Tables.{member_count_of, state_of, weight as w
 ghost use Rattle.pager.specs.Reads.{AskedOne, Limited, Unread, gathered, reading_of};
 
 use bank::Bank;
-use parity_log::{GroupState, Tables};
 use page::{PAGE_SIZE, Page};
+use parity_log::{GroupState, Tables};
 
 const PARITY_WEIGHT: u16 = 256;
 

@@ -3,7 +3,7 @@ use Rattle.std.specs.Prelude.{ℕ, cond, Some, None as Nowhere, Ok, Err, Option,
 use Rattle.page.specs.declared.faults.Fault.{Fault}
 use Rattle.page.specs.declared.faults.Layer.TheVariants.{Log}
 use Rattle.page.specs.declared.faults.Refusal.{Refusal}
-use Rattle.page.specs.declared.faults.Refusal.TheVariants.{Range, Length, None, Lost, Shape as BadShape}
+use Rattle.page.specs.declared.faults.Refusal.TheVariants.{Range, Length, Lost, Shape as BadShape}
 use Rattle.page.specs.Refusals.{fault_of, of_page, in_group}
 use Rattle.parity_log.specs.declared.records.Tables.{Tables}
 use Rattle.parity_log.specs.Tables.{within, capacity}

@@ -1,5 +1,5 @@
 -- Who is named at each position: the page table read the other way, kept beside it so that no search goes over all pages.
-use Rattle.std.specs.Prelude.{◌≡◌, ℕ, ◌+◌, ◌*◌, ◌<◌, true, false, List, length, Some, None, Option, ◌≢◌, slice_index_or, slice_set}
+use Rattle.std.specs.Prelude.{◌≡◌, ℕ, ◌+◌, ◌*◌, ◌<◌, true, false, List, None, Option, ◌≢◌, slice_index_or, slice_set}
 use Rattle.parity_log.specs.declared.records.PageState.{PageState}
 use Rattle.parity_log.specs.declared.records.PageState.TheVariants.{NotOut, Out, Lost}
 use Rattle.parity_log.specs.declared.ledger.Ledger.{Ledger}

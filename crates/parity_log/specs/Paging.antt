@@ -4,15 +4,14 @@ use Rattle.std.specs.List.{range_with_len}
 use Rattle.page.specs.declared.faults.Fault.{Fault}
 use Rattle.page.specs.Pages.{page_size, zeros, xor_page}
 use Rattle.server.specs.Calls.{to_put, to_free}
-use Rattle.parity_log.specs.declared.records.PageState.{PageState}
 use Rattle.parity_log.specs.declared.records.PageState.TheVariants.{NotOut, Out, Lost}
 use Rattle.parity_log.specs.declared.records.GroupState.TheVariants.{Free, Open, Closed}
 use Rattle.parity_log.specs.declared.records.Tables.{Tables}
 use Rattle.parity_log.specs.Tables.{state_of, page_state, with_page, with_state, is_closed, page_at, live, group_of}
 use Rattle.parity_log.specs.Choices.{open_group, next_free, free_count, fewest_live}
 use Rattle.parity_log.specs.Faults.{lost_page, objection}
-use Rattle.parity_log.specs.Reading.{LogRule, Finding, Gathered, gather, Reading, found, missed, restored, read}
-use Rattle.parity_log.specs.Rule.{Rule, give, ask, note, ◌>>=◌}
+use Rattle.parity_log.specs.Reading.{LogRule, gather, Reading, found, missed, restored, read}
+use Rattle.parity_log.specs.Rule.{give, ask, note, ◌>>=◌}
 
 -- an answer, and the tables after it
 pub record Told : Type 0 where

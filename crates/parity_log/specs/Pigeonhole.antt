@@ -1,5 +1,5 @@
 -- Why the open group never fills in a cleaning: some closed group has few live positions.
-use Rattle.std.specs.Prelude.{◌≡◌, ℕ, ◌+◌, ◌-◌, ◌*◌, ◌/◌, ◌<◌, ◌≤◌, List, Some, ◌≢◌}
+use Rattle.std.specs.Prelude.{◌≡◌, ℕ, ◌-◌, ◌*◌, ◌/◌, ◌<◌, ◌≤◌, Some, ◌≢◌}
 use Rattle.parity_log.specs.declared.records.GroupState.TheVariants.{Closed}
 use Rattle.parity_log.specs.declared.records.Shape.{Shape}
 use Rattle.parity_log.specs.declared.records.Tables.{Tables}

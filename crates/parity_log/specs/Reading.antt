@@ -1,5 +1,5 @@
 -- Reading a page: its own member first, and all others where that refuses.
-use Rattle.std.specs.Prelude.{ℕ, ◌+◌, Bool, true, false, cond, List, [], ◌∷◌, Some, None as Nowhere, Ok, Err, Option, Result, ◌==◌}
+use Rattle.std.specs.Prelude.{ℕ, ◌+◌, cond, List, [], ◌∷◌, Some, None as Nowhere, Ok, Err, Option, Result, ◌==◌}
 use Rattle.page.specs.declared.faults.Fault.{Fault}
 use Rattle.page.specs.declared.faults.Refusal.TheVariants.{None}
 use Rattle.page.specs.Pages.{page_size, zeros, xor_page}

@@ -1,5 +1,5 @@
 -- The log's shape and tables, and what they say of groups, members and live positions.
-use Rattle.std.specs.Prelude.{ℕ, ◌+◌, ◌-◌, ◌*◌, ◌^◌, Bool, true, false, cond, not, ◌&&◌, leb, List, [], ◌∷◌, set, replicate, is_some, Some, None, count_by, filter, Option, ◌==◌, nat_le, nat_lt, slice_index_or, slice_set}
+use Rattle.std.specs.Prelude.{ℕ, ◌+◌, ◌-◌, ◌*◌, ◌^◌, Bool, true, false, cond, not, ◌&&◌, leb, List, [], ◌∷◌, replicate, is_some, Some, None, count_by, filter, Option, ◌==◌, nat_le, nat_lt, slice_index_or, slice_set}
 use Rattle.std.specs.List.{range_with_len, list_all}
 use Rattle.page.specs.Pages.{zeros}
 use Rattle.parity_log.specs.declared.records.Shape.{Shape}

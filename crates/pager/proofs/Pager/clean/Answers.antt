@@ -1,4 +1,4 @@
-use Rattle.std.proofs.Common.{◌≡◌, sym, refl, ap, ◌∙◌, subst, arith}
+use Rattle.std.proofs.Common.{sym, ap, ◌∙◌, subst, arith}
 use Rattle.parity_log.specs.declared.records.Tables.{Tables}
 use Rattle.parity_log.proofs.Bounds.{shape_bounds}
 use Rattle.parity_log.proofs.CleaningLaws.{clean_group, clean_end}

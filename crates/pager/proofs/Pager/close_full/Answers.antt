@@ -1,4 +1,4 @@
-use Rattle.std.proofs.Common.{sym, refl, ◌∙◌}
+use Rattle.std.proofs.Common.{sym, ◌∙◌}
 use Rattle.parity_log.specs.Paging.{close_full, shut}
 use Rattle.parity_log.proofs.RuleLaws.{ends_as}
 use Rattle.pager.proofs.PlacingLaws.{closed_now, open_still, closes, stays_open}

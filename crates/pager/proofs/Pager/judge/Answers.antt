@@ -1,15 +1,11 @@
-use Rattle.std.proofs.Common.{◌≡◌, ℕ, ◌+◌, ◌<◌, ◌≤◌, false, Some, Err, sym, refl, ap, ◌∙◌, subst, arith}
+use Rattle.std.proofs.Common.{◌+◌, ◌≤◌, false, Some, Err, sym, refl, ap, subst, arith}
 use mir.Facts.{Fits-of_lt}
 use Rattle.page.specs.declared.faults.Fault.{Fault}
 use Rattle.parity_log.specs.declared.records.Tables.{Tables}
-use Rattle.parity_log.specs.declared.records.PageState.TheVariants.{Lost}
-use Rattle.parity_log.specs.Order.{Settled}
 use Rattle.parity_log.specs.Rule.{Ends}
-use Rattle.parity_log.specs.Tables.{with_page}
-use Rattle.parity_log.specs.Paging.{ending, told, release_old, released_old}
+use Rattle.parity_log.specs.Paging.{ending, told, release_old}
 use Rattle.parity_log.specs.Faults.{lost_page}
 use Rattle.parity_log.proofs.ChangesLaws.{changes_lose}
-use Rattle.parity_log.proofs.Keeping.{lose_leaves, release_same}
 use Rattle.parity_log.proofs.Bounds.{shape_bounds}
 use Rattle.parity_log.proofs.RuleLaws.{ends_as}
 use Rattle.pager.proofs.AskingLaws.{weight_small}

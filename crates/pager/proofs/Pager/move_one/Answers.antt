@@ -1,6 +1,5 @@
-use Rattle.std.proofs.Common.{◌≡◌, ◌+◌, length, sym, refl, ap, ◌∙◌, subst, arith}
+use Rattle.std.proofs.Common.{◌+◌, length, sym, refl, ap, ◌∙◌, subst}
 use Rattle.parity_log.specs.declared.records.Tables.{Tables}
-use Rattle.parity_log.specs.declared.records.Shape.{Shape}
 use Rattle.parity_log.specs.Order.{Cleaning}
 use Rattle.parity_log.specs.Tables.{page_at}
 use Rattle.parity_log.proofs.CleaningLaws.{clean_skip, clean_place, clean_lose}

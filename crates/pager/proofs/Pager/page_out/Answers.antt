@@ -1,9 +1,9 @@
-use Rattle.std.proofs.Common.{◌≡◌, ℕ, ◌<◌, ◌≤◌, Bool, true, false, Ok, Option, sym, refl, ap, ◌∙◌, subst, arith}
+use Rattle.std.proofs.Common.{ℕ, ◌<◌, ◌≤◌, true, false, Ok, Option, sym, refl, ap, ◌∙◌, subst, arith}
 use Rattle.parity_log.specs.declared.records.Tables.{Tables}
 use Rattle.parity_log.specs.declared.records.Shape.{Shape}
 use Rattle.parity_log.specs.Rule.{Ends}
-use Rattle.parity_log.specs.Tables.{capacity, group_of, page_state}
-use Rattle.parity_log.specs.Paging.{release_old, released_old, ending, told}
+use Rattle.parity_log.specs.Tables.{capacity, page_state}
+use Rattle.parity_log.specs.Paging.{release_old, released_old, told}
 use Rattle.parity_log.proofs.Bounds.{shape_bounds, capacity_fits}
 use Rattle.parity_log.proofs.ChangesLaws.{changes_place}
 use Rattle.pager.specs.Places.{Fit}

@@ -1,4 +1,4 @@
-use Rattle.std.proofs.Common.{◌≡◌, ℕ, ◌+◌, List, sym, ap, ◌∙◌, subst, arith}
+use Rattle.std.proofs.Common.{ℕ, ◌+◌, List, sym, subst, arith}
 use mir.Facts.{Fits-of_lt}
 use Rattle.parity_log.specs.Rule.{Ends}
 use Rattle.parity_log.specs.Reading.{read, found, missed}
