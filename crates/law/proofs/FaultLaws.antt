@@ -3,7 +3,8 @@ use Rattle.std.proofs.Common.{◌≡◌, ℕ, ◌<◌, true, false, eqb, ltb, So
 use borrow.Author.Tests.{both_ways}
 use Rattle.std.proofs.lemmas.Bool.{cond_both}
 use Rattle.page.specs.declared.faults.Fault.{Fault}
-use Rattle.page.specs.declared.faults.Refusal.TheVariants.{Range, Length, Lost, None, Shape as BadShape}
+use Rattle.page.specs.declared.faults.Refusal.{Refusal}
+use Rattle.page.specs.declared.faults.Refusal.TheVariants.{Range, Length, None, Lost, Gone, Shape as BadShape, Full, Worn, Unread}
 use Rattle.page.specs.Refusals.{fault_of, same_refusal}
 use Rattle.page.specs.declared.faults.Layer.TheVariants.{Log}
 use Rattle.parity_log.specs.declared.records.Tables.{Tables}
@@ -32,3 +33,15 @@ objects v p n = cond_both (within v.shape) _ (Some (fault_of Log BadShape)) (Obj
     (λ low. cond_both (eqb n 512) Nowhere (Some (on_page Length p)) (Objects v p n) (λ long. (made, ltb-true p (capacity v.shape) low, eqb-true n 512 long)) (λ _. record { not_lost = refl; not_none = refl }))
     (λ _. record { not_lost = refl; not_none = refl }))
     (λ _. record { not_lost = refl; not_none = refl })
+
+-- the refusal as lost is told from all others by its number
+pub as_lost : (w : Refusal) → same_refusal w Lost ≡ true → w ≡ Lost
+as_lost Range e = absurd (both_ways _ refl e)
+as_lost Length e = absurd (both_ways _ refl e)
+as_lost None e = absurd (both_ways _ refl e)
+as_lost Lost e = refl
+as_lost Gone e = absurd (both_ways _ refl e)
+as_lost BadShape e = absurd (both_ways _ refl e)
+as_lost Full e = absurd (both_ways _ refl e)
+as_lost Worn e = absurd (both_ways _ refl e)
+as_lost Unread e = absurd (both_ways _ refl e)

@@ -1,3 +1,4 @@
+pub mod CalmLaws
 pub mod ChangeLaws
 pub mod CleaningLaw
 pub mod FaultLaws
@@ -6,13 +7,18 @@ pub mod FreshLaw
 pub mod GatherLaws
 pub mod GroupLaws
 pub mod Invariant
+pub mod Lawful
 pub mod ListLaws
 pub mod Mode
 pub mod PageinLaw
 pub mod PageoutLaw
 pub mod PlaceLaws
 pub mod ReadLaws
+pub mod RebuildLaw
 pub mod ReleaseLaws
 pub mod RuleLaws
+pub mod RunLaws
+pub mod SingleLaw
 pub mod SolveLaws
 pub mod StepLaws
+pub mod VisitLaw

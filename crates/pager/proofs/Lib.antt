@@ -1,3 +1,4 @@
+pub mod Admitting
 pub mod AskingLaws
 pub mod CallWays
 pub mod CleaningWays
@@ -6,4 +7,8 @@ pub mod MakingLaws
 pub mod PageinLaws
 pub mod PageoutWays
 pub mod PlacingLaws
+pub mod PullLaws
 pub mod ReadLaws
+pub mod Seen
+pub mod StepWays
+pub mod VisitLaws

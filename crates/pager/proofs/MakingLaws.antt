@@ -11,7 +11,11 @@ use Rattle.parity_log.specs.Owners.{Linked}
 use Rattle.parity_log.specs.Tables.{within, accepts, capacity, initial}
 use Rattle.parity_log.proofs.Bounds.{shape_bounds}
 use Rattle.parity_log.proofs.OpeningLaws.{initial_settled}
-use Rattle.pager.specs.Making.{sizes, over_all, decided, made_as, made_with, making}
+use Rattle.law.specs.Law.{Lawful}
+use Rattle.law.proofs.Lawful.{Ready, lawful}
+use Rattle.bank.specs.Rows.{RowRule, Rowed}
+use Rattle.parity_log.specs.Making.{sizes, over_all, decided, made_as, made_with, making}
+use Rattle.pager.specs.Moments.{moment_of}
 use Rattle.pager.specs.Order.{Fitted, Ordered}
 use Rattle.pager.proofs.AskingLaws.{span_more}
 
@@ -67,3 +71,10 @@ module _ {B : Type 0} (count : B → ℕ) (means : B → ℕ → Meaning) (b : B
         linked = linked;
         fitted = λ _. subst (λ (t : Tables). Fitted count means t.shape b) (sym is) decided_fitted;
       }
+
+  -- every run from a pager just made, over servers in good order, is lawful
+  pub made_lawful : (order : B → Type 0) (steps : RowRule B) (laws : Rowed count means order steps) (l : Ledger) → order b → l.tables ≡ initial s → Lawful (moment_of count means (record { bank = b; ledger = l }))
+  made_lawful order steps laws l o is =
+      let fits = decided_fitted in
+      let ready : Ready s (means b) = record { shape = decided_within v (count b) (means b) g q s e; sound = λ k le. laws.sound b k o (omega (arith, fits.servers)); room = fits.sizes } in
+      subst (λ (t : Tables). Lawful (record { tables = t; servers = count b; row = means b })) (sym is) (subst (λ (n : ℕ). Lawful (record { tables = initial s; servers = n; row = means b })) (sym fits.servers) (lawful s (means b) ready))

@@ -1,5 +1,5 @@
 -- The ways through a pagein.
-use Rattle.std.proofs.Common.{◌≡◌, ℕ, ◌<◌, Bool, true, false, cond, eqb, ltb, List, Some, None as Nowhere, Ok, Err, Option, Result, sym, refl, ap, subst, arith, ltb-true, eqb-true}
+use Rattle.std.proofs.Common.{◌≡◌, ℕ, ◌<◌, Bool, true, false, cond, eqb, ltb, List, [], Some, None as Nowhere, Ok, Err, Result, sym, refl, subst, arith, ltb-true, eqb-true}
 use Rattle.page.specs.declared.faults.Fault.{Fault}
 use Rattle.page.specs.declared.faults.Layer.TheVariants.{Log}
 use Rattle.page.specs.declared.faults.Refusal.TheVariants.{Length, None, Range, Shape}
@@ -10,17 +10,12 @@ use Rattle.parity_log.specs.declared.records.PageState.{PageState}
 use Rattle.parity_log.specs.declared.records.PageState.TheVariants.{NotOut, Out, Lost}
 use Rattle.parity_log.specs.declared.records.Tables.{Tables}
 use Rattle.parity_log.specs.Faults.{on_page, lost_page, objection, refused_by}
-use Rattle.parity_log.specs.Reading.{Finding, delivered, found, missed, pagein, pagein_from, pagein_unless, read}
+use Rattle.parity_log.specs.Reading.{delivered, found, missed, pagein, pagein_from, pagein_unless, read}
 use Rattle.parity_log.specs.Rule.{give, Ends}
 use Rattle.parity_log.specs.Tables.{within, capacity, page_state}
 use Rattle.parity_log.proofs.RuleLaws.{ends_bind, ends_give, ends_note}
-
-abbrev Passes : Option Fault → Type 0
-Passes o = Ok tt ≡ refused_by o
-
--- nothing is objected to
-abbrev pub Admitted : Tables → ℕ → ℕ → Type 0
-Admitted v p n = Passes (objection v p n)
+use Rattle.pager.specs.Admitted.{Admitted}
+use Rattle.pager.proofs.Admitting.{Passes, refused_at, let_in}
 
 pub admitted : (v : Tables) (p n : ℕ) → Admitted v p n → (within v.shape ≡ true) × (p < capacity v.shape) × (n ≡ 512)
 admitted v p n h = go (within v.shape) (ltb p (capacity v.shape)) (eqb n 512) refl refl refl h
@@ -32,21 +27,13 @@ admitted v p n h = go (within v.shape) (ltb p (capacity v.shape)) (eqb n 512) re
     go false y z s r l q = let w : ◌≡◌ {A = ℕ} 0 1 = cc in absurd (omega arith)
 
 module _ {B : Type 0} (steps : RowRule B) (v : Tables) (p n : ℕ) (b e : B) where
-  unless_refused : (o : Option Fault) (f : Fault) → Err f ≡ refused_by o → Ends steps (pagein_unless o v p) b (Err f) b
-  unless_refused Nowhere f q = let z : ◌≡◌ {A = ℕ} 0 1 = cc in absurd (omega arith)
-  unless_refused (Some k) f q = subst (λ (x : Result (List ℕ) Fault). Ends {N = Finding} steps (give x) b (Err f) b) (let same : f ≡ k = cc in ap Err same) (ends_give steps (Err f) b)
-
-  unless_admitted : (o : Option Fault) (s : PageState) (r : Result (List ℕ) Fault) → Passes o → page_state v p ≡ s → Ends steps (pagein_from v p s) b r e → Ends steps (pagein_unless o v p) b r e
-  unless_admitted Nowhere s r q is run = subst (λ (x : PageState). Ends steps (pagein_from v p x) b r e) (sym is) run
-  unless_admitted (Some k) s r q is run = let z : ◌≡◌ {A = ℕ} 0 1 = cc in absurd (omega arith)
-
   pub pagein_refused : (x : List ℕ) (r : Result (Unit {0}) Fault) (f k : Fault) → r ≡ Err k → k ≡ f → Err f ≡ refused_by (objection v p n) → Ends steps (pagein v p n) b (filled r x) b × Left r x x
   unfolding pagein
-  pagein_refused x r f k is same q = rw (is, same) (unless_refused (objection v p n) f q, refl)
+  pagein_refused x r f k is same q = (refused_at steps b (λ a. filled a x) (λ o. pagein_unless o v p) (λ _. refl) (objection v p n) r f k is same q, rw is refl)
 
   pagein_at : Admitted v p n → (s : PageState) (r : Result (List ℕ) Fault) → page_state v p ≡ s → Ends steps (pagein_from v p s) b r e → Ends steps (pagein v p n) b r e
   unfolding pagein
-  pagein_at admit s r is run = unless_admitted (objection v p n) s r admit is run
+  pagein_at admit s r is run = let_in steps b (λ a. filled a []) (λ o. pagein_unless o v p) (λ _. refl) (objection v p n) r e admit (subst (λ (x : PageState). Ends steps (pagein_from v p x) b r e) (sym is) run)
 
 module _ {B : Type 0} (steps : RowRule B) (v : Tables) (p n : ℕ) (b e : B) (admit : Admitted v p n) where
   pub pagein_none : (f : Fault) → f ≡ on_page None p → page_state v p ≡ NotOut → Ends steps (pagein v p n) b (Err f) b

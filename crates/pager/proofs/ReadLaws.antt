@@ -11,7 +11,7 @@ use Rattle.parity_log.proofs.RuleLaws.{ends_bind, ends_give, ends_ask}
 use Rattle.pager.specs.Reads.{gathered}
 
 -- a get with a whole buffer
-whole_get : {B : Type 0} (steps : RowRule B) (b e : B) (i g n : ℕ) (a : Result (List ℕ) Fault) → n ≡ 512 → steps b i (to_get g n) a e → steps b i (to_get g 512) a e
+pub whole_get : {B : Type 0} (steps : RowRule B) (b e : B) (i g n : ℕ) (a : Result (List ℕ) Fault) → n ≡ 512 → steps b i (to_get g n) a e → steps b i (to_get g 512) a e
 whole_get steps b e i g n a l st = subst (λ (k : ℕ). steps b i (to_get g k) a e) l st
 
 module _ {B : Type 0} (steps : RowRule B) (v : Tables) (g i n : ℕ) (l : n ≡ 512) (b e : B) where

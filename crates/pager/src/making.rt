@@ -1,6 +1,9 @@
-ghost use Rattle.std.specs.Prelude.{◌≡◌, ◌+◌, ◌<◌, ◌≤◌, leb, nat_le};
+ghost use Rattle.std.specs.Prelude.{◌≡◌, ◌+◌, ◌<◌, ◌≤◌, true, leb, is_ok, nat_le};
+ghost use Rattle.law.specs.Law.{Lawful};
+ghost use Rattle.law.specs.Runs.{Happens, makes};
+ghost use Rattle.parity_log.specs.Making.{decided, made_as, making, sizes};
 ghost use Rattle.parity_log.specs.Tables.{unmade};
-ghost use Rattle.pager.specs.Making.{decided, made_as, making, sizes};
+ghost use Rattle.pager.specs.Moments.{moment_of};
 ghost use Rattle.pager.specs.Order.{Ordered};
 ghost use Rattle.std.specs.List.{list_all};
 
@@ -72,12 +75,14 @@ impl<B: Bank> Pager<B> {
         }
     }
 
-    // Decides the pager's shape, once; answers how many pages it has.
+    // Decides the pager's shape, once; answers how many pages it has. From then on every run of the pager is lawful.
     pub fn make(&mut self, groups: usize, spares: usize) -> Result<usize, Fault>
         requires { Ordered B.Bank.order B.Bank.count B.Bank.means self.old }
         ensures order { Ordered B.Bank.order B.Bank.count B.Bank.means self.new }
         ensures bank { self.new.bank ≡ self.old.bank }
         ensures made { making self.old.ledger.tables (B.Bank.count self.old.bank) (B.Bank.means self.old.bank) groups spares ≡ made_as result self.new.ledger.tables }
+        ensures turn { Happens (moment_of B.Bank.count B.Bank.means self.old) (makes groups spares result) (moment_of B.Bank.count B.Bank.means self.new) }
+        ensures lawful { is_ok result ≡ true → Lawful (moment_of B.Bank.count B.Bank.means self.new) }
     {
         let Some(shape) = self.decide(groups, spares) else {
             return Err(Fault::new(Layer::Log, Refusal::Shape));

@@ -1,6 +1,9 @@
+ghost use Rattle.law.specs.Runs.{pages_in};
 ghost use Rattle.parity_log.specs.Faults.{lost_page};
 ghost use Rattle.parity_log.specs.Reading.{pagein as pagein_rule};
 ghost use Rattle.parity_log.specs.Rule.{Ends};
+ghost use Rattle.pager.specs.Admitted.{Admitted};
+ghost use Rattle.pager.specs.Moments.{Turns, moment_of};
 ghost use Rattle.pager.specs.Order.{Ordered};
 ghost use Rattle.server.specs.Calls.{Left, filled};
 ghost use Rattle.std.specs.Prelude.{◌≡◌, length};
@@ -21,15 +24,15 @@ pub fn lost(page: usize, group: usize, missing: u16) -> Fault
 }
 
 impl<B: Bank> Pager<B> {
-    // Reads a page into the buffer. A page that can't be read now stays out: its servers may come back.
-    pub fn pagein(&mut self, page: usize, buffer: &mut [u8]) -> Result<(), Fault>
-        requires { Ordered B.Bank.order B.Bank.count B.Bank.means self.old }
+    // The call, once nothing is objected to.
+    fn pagein_admitted(&mut self, page: usize, buffer: &mut [u8]) -> Result<(), Fault>
+        requires { (Ordered B.Bank.order B.Bank.count B.Bank.means self.old) × (Admitted self.old.ledger.tables page (length buffer.old)) }
         ensures order { Ordered B.Bank.order B.Bank.count B.Bank.means self.new }
         ensures ran { Ends B.Bank.steps (pagein_rule self.old.ledger.tables page (length buffer.old)) self.old.bank (filled result buffer.new) self.new.bank }
         ensures tables { self.new.ledger ≡ self.old.ledger }
         ensures left { Left result buffer.old buffer.new }
+        ensures turn { Turns (moment_of B.Bank.count B.Bank.means self.old) (λ fs. pages_in page (length buffer.old) (filled result buffer.new) fs) (moment_of B.Bank.count B.Bank.means self.new) }
     {
-        self.ledger.tables.admit(page, buffer.len())?;
         let state = self.ledger.tables.pages[page];
         match state {
             PageState::NotOut => Err(Fault::new(Layer::Log, Refusal::None).of_page(page)),
@@ -41,5 +44,18 @@ impl<B: Bank> Pager<B> {
                 }
             }
         }
+    }
+
+    // Reads a page into the buffer. A page that can't be read now stays out: its servers may come back.
+    pub fn pagein(&mut self, page: usize, buffer: &mut [u8]) -> Result<(), Fault>
+        requires { Ordered B.Bank.order B.Bank.count B.Bank.means self.old }
+        ensures order { Ordered B.Bank.order B.Bank.count B.Bank.means self.new }
+        ensures ran { Ends B.Bank.steps (pagein_rule self.old.ledger.tables page (length buffer.old)) self.old.bank (filled result buffer.new) self.new.bank }
+        ensures tables { self.new.ledger ≡ self.old.ledger }
+        ensures left { Left result buffer.old buffer.new }
+        ensures turn { Turns (moment_of B.Bank.count B.Bank.means self.old) (λ fs. pages_in page (length buffer.old) (filled result buffer.new) fs) (moment_of B.Bank.count B.Bank.means self.new) }
+    {
+        self.ledger.tables.admit(page, buffer.len())?;
+        self.pagein_admitted(page, buffer)
     }
 }

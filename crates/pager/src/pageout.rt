@@ -1,10 +1,13 @@
-ghost use Rattle.std.specs.Prelude.{◌≡◌, ◌<◌, ◌≤◌, false};
+ghost use Rattle.std.specs.Prelude.{◌≡◌, ◌<◌, false, length, Ok as Done};
+ghost use Rattle.law.specs.Runs.{frees, pages_out};
 ghost use Rattle.parity_log.specs.Order.{Settled};
 ghost use Rattle.parity_log.specs.Owners.{Linked};
 ghost use Rattle.parity_log.specs.Paging.{ending, free as free_rule, pageout, steps as steps_rule, told};
 ghost use Rattle.parity_log.specs.Rule.{Ends};
 ghost use Rattle.parity_log.specs.Tables.{capacity, group_of, page_state};
 ghost use Rattle.parity_log.specs.declared.records.PageState.TheVariants.{Out};
+ghost use Rattle.pager.specs.Admitted.{Admitted};
+ghost use Rattle.pager.specs.Moments.{Turns, moment_of};
 ghost use Rattle.pager.specs.Order.{Ordered};
 
 use crate::Pager;
@@ -79,18 +82,42 @@ impl<B: Bank> Pager<B> {
     }
 }
 
+// The calls, once nothing is objected to.
+impl<B: Bank> Pager<B> {
+    fn pageout_admitted(&mut self, page: usize, bytes: &[u8]) -> Result<(), Fault>
+        requires { (Ordered B.Bank.order B.Bank.count B.Bank.means self.old) × (Admitted self.old.ledger.tables page (length bytes.now)) }
+        ensures order { Ordered B.Bank.order B.Bank.count B.Bank.means self.new }
+        ensures ran { Ends B.Bank.steps (pageout self.old.ledger.tables page bytes.now) self.old.bank (told result self.new.ledger.tables) self.new.bank }
+        ensures turn { Turns (moment_of B.Bank.count B.Bank.means self.old) (λ fs. pages_out page bytes.now result fs) (moment_of B.Bank.count B.Bank.means self.new) }
+    {
+        match <&[u8; PAGE_SIZE]>::try_from(bytes) {
+            Ok(whole) => self.page_out(page, whole),
+            Err(_) => Err(Fault::new(Layer::Log, Refusal::Length).of_page(page)),
+        }
+    }
+
+    fn free_admitted(&mut self, page: usize)
+        requires { (Ordered B.Bank.order B.Bank.count B.Bank.means self.old) × (Admitted self.old.ledger.tables page 512) }
+        ensures order { Ordered B.Bank.order B.Bank.count B.Bank.means self.new }
+        ensures ran { Ends B.Bank.steps (free_rule self.old.ledger.tables page) self.old.bank (told (Done tt) self.new.ledger.tables) self.new.bank }
+        ensures turn { Turns (moment_of B.Bank.count B.Bank.means self.old) (λ fs. frees page (Done tt) fs) (moment_of B.Bank.count B.Bank.means self.new) }
+    {
+        let state = self.ledger.tables.pages[page];
+        self.ledger.set_page(page, PageState::NotOut);
+        self.release_old(group_of(state));
+    }
+}
+
 impl<B: Bank> Pager<B> {
     // Puts a page out: into the open group, or one that is opened for it. A page whose put was refused, and that can't be restored, is lost.
     pub fn pageout(&mut self, page: usize, bytes: &[u8]) -> Result<(), Fault>
         requires { Ordered B.Bank.order B.Bank.count B.Bank.means self.old }
         ensures order { Ordered B.Bank.order B.Bank.count B.Bank.means self.new }
         ensures ran { Ends B.Bank.steps (pageout self.old.ledger.tables page bytes.now) self.old.bank (told result self.new.ledger.tables) self.new.bank }
+        ensures turn { Turns (moment_of B.Bank.count B.Bank.means self.old) (λ fs. pages_out page bytes.now result fs) (moment_of B.Bank.count B.Bank.means self.new) }
     {
         self.ledger.tables.admit(page, bytes.len())?;
-        match <&[u8; PAGE_SIZE]>::try_from(bytes) {
-            Ok(whole) => self.page_out(page, whole),
-            Err(_) => Err(Fault::new(Layer::Log, Refusal::Length).of_page(page)),
-        }
+        self.pageout_admitted(page, bytes)
     }
 
     // Lets a page go, whatever it was.
@@ -98,11 +125,10 @@ impl<B: Bank> Pager<B> {
         requires { Ordered B.Bank.order B.Bank.count B.Bank.means self.old }
         ensures order { Ordered B.Bank.order B.Bank.count B.Bank.means self.new }
         ensures ran { Ends B.Bank.steps (free_rule self.old.ledger.tables page) self.old.bank (told result self.new.ledger.tables) self.new.bank }
+        ensures turn { Turns (moment_of B.Bank.count B.Bank.means self.old) (λ fs. frees page result fs) (moment_of B.Bank.count B.Bank.means self.new) }
     {
         self.ledger.tables.admit(page, PAGE_SIZE)?;
-        let state = self.ledger.tables.pages[page];
-        self.ledger.set_page(page, PageState::NotOut);
-        self.release_old(group_of(state));
+        self.free_admitted(page);
         Ok(())
     }
 }

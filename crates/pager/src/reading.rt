@@ -23,7 +23,7 @@ pub(crate) fn weight(servers: usize, server: usize) -> u16
 }
 
 // The members of a group on servers are on the first so many.
-fn member_count(tables: &Tables, group: usize) -> usize
+pub(crate) fn member_count(tables: &Tables, group: usize) -> usize
     requires { (group < 32) × (Limited tables.now) }
     ensures { result ≡ member_count_of (state_of tables.now group) tables.now.shape.servers tables.now.filled }
 {

@@ -4,7 +4,9 @@ pub mod Rule
 pub mod Faults
 pub mod Reading
 pub mod Paging
+pub mod Rebuilding
 pub mod Order
 pub mod Owners
 pub mod Pigeonhole
+pub mod Making
 pub mod Worked

@@ -11,7 +11,10 @@ ghost use Rattle.parity_log.specs.Pigeonhole.{Pigeonhole};
 ghost use Rattle.parity_log.specs.Worked.{WorkedFacts};
 
 pub use ledger::Ledger;
-pub use records::{GroupState, MOST_GROUPS, MOST_PAGES, MOST_SERVERS, PageState, Shape, Tables};
+pub use records::{
+    Counts, GroupState, MOST_GROUPS, MOST_PAGES, MOST_SERVERS, PageState, Progress, Shape, Tables,
+    Visit,
+};
 
 // The facts of the rules that were worked out by hand, and the bound on a cleaning, hold.
 pub fn rules_stand() -> u8

@@ -40,3 +40,30 @@ pub struct Tables {
     pub filled: usize,
     pub parity: Page,
 }
+
+// How far a rebuild of a server has come: the group it is at, what it counted, and the numbers of data servers and groups of the pager that it was begun on.
+#[derive(Clone, Copy, PartialEq, Eq, Debug)]
+pub struct Progress {
+    pub server: usize,
+    pub group: usize,
+    pub rebuilt: usize,
+    pub failed: usize,
+    pub servers: usize,
+    pub groups: usize,
+}
+
+// What a rebuild found at a group: nothing to do, a member that it put back, or one that it could not.
+#[derive(Clone, Copy, PartialEq, Eq, Debug)]
+pub enum Visit {
+    Intact,
+    Rebuilt,
+    Failed,
+}
+
+// What a rebuild came to, in groups.
+#[derive(Clone, Copy, PartialEq, Eq, Debug)]
+pub struct Counts {
+    pub rebuilt: usize,
+    pub failed: usize,
+    pub unvisited: usize,
+}

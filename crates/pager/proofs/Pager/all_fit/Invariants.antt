@@ -1,6 +1,6 @@
 use Rattle.std.proofs.Common.{◌≡◌, leb}
 use Rattle.std.specs.List.{list_all}
-use Rattle.pager.specs.Making.{sizes}
+use Rattle.parity_log.specs.Making.{sizes}
 use Rattle.pager.proofs.MakingLaws.{Pass}
 use Rattle.pager.proofs.Pager.all_fit.Given as goal
 

@@ -1,5 +1,5 @@
 use Rattle.std.proofs.Common.{refl}
-use Rattle.pager.proofs.MakingLaws.{decided_within, making_is, made_ordered}
+use Rattle.pager.proofs.MakingLaws.{decided_within, making_is, made_ordered, made_lawful}
 use Rattle.pager.proofs.Pager.make.Goals as goal
 
 pub capacity-requires : goal.capacity-requires
@@ -17,8 +17,11 @@ returns g c =
     let is = c.in-Some.ensures in
     let l = c.new-self.result in
     let new = c.new-self.ensures in
+    let made = making_is v (bank.count b) (bank.means b) c.args.groups c.args.spares shape is c.capacity.result l.tables c.capacity.ensures new.tables in
     record {
       order = made_ordered bank.count bank.means b v c.args.groups c.args.spares shape is bank.order l c.requires.bank new.tables new.linked;
       bank = refl;
-      made = making_is v (bank.count b) (bank.means b) c.args.groups c.args.spares shape is c.capacity.result l.tables c.capacity.ensures new.tables;
+      made = made;
+      turn = record { servers = refl; goes = (made, refl) };
+      lawful = λ _. made_lawful bank.count bank.means b v c.args.groups c.args.spares shape is bank.order bank.steps bank.laws l c.requires.bank new.tables;
     }

@@ -1,0 +1,47 @@
+-- The ways through the visit of a group.
+use Rattle.std.proofs.Common.{◌≡◌, ℕ, ◌<◌, ◌≤◌, cond, List, is_ok, None, Ok, Err, Result, sym, subst, le-ltb, lt-ltb, eq-eqb, ne_eqb}
+use Rattle.page.specs.declared.faults.Fault.{Fault}
+use Rattle.server.specs.Calls.{to_get, to_put}
+use Rattle.bank.specs.Rows.{RowRule}
+use Rattle.parity_log.specs.declared.records.Progress.{Progress}
+use Rattle.parity_log.specs.declared.records.Tables.{Tables}
+use Rattle.parity_log.specs.declared.records.Visit.{Visit}
+use Rattle.parity_log.specs.declared.records.Visit.TheVariants.{Intact, Rebuilt, Failed}
+use Rattle.parity_log.specs.Rule.{give, Ends}
+use Rattle.parity_log.specs.Tables.{member_count_of, state_of}
+use Rattle.parity_log.specs.Reading.{Finding, gather}
+use Rattle.parity_log.specs.Rebuilding.{put_back, mend, visit, counted, stepped, step_unless}
+use Rattle.parity_log.proofs.RuleLaws.{ends_ask, ends_bind, ends_give}
+use Rattle.pager.specs.Reads.{gathered}
+use Rattle.pager.proofs.ReadLaws.{whole_get}
+
+module _ {B : Type 0} (steps : RowRule B) (k g : ℕ) (sum : List ℕ) (missing : ℕ) (b e : B) where
+  pub nothing_put : (missing ≡ 0 → ⊥) → Ends steps (put_back k g (gathered sum missing)) b Failed b
+  unfolding put_back
+  nothing_put h = rw (ne_eqb missing 0 h) (ends_give steps Failed b)
+
+  pub puts : (a : Result (Unit {0}) Fault) → missing ≡ 0 → steps b k (to_put g sum) a e → Ends steps (put_back k g (gathered sum missing)) b (cond (is_ok a) Rebuilt Failed) e
+  unfolding put_back
+  puts a h st = rw (eq-eqb missing 0 h) (ends_ask steps k (to_put g sum) (λ d. give (cond (is_ok d) Rebuilt Failed)) b e e a _ st (ends_give steps _ e))
+
+module _ {B : Type 0} (steps : RowRule B) (v : Tables) (k g : ℕ) (b m e : B) where
+  pub delivers : (x : List ℕ) → Ends steps (mend v k g (Ok x)) b Intact b
+  unfolding mend
+  delivers x = ends_give steps Intact b
+
+  pub mends : (sum : List ℕ) (missing : ℕ) (r : Visit) (f : Fault) → Ends steps (gather v g k) b (gathered sum missing) m → Ends steps (put_back k g (gathered sum missing)) m r e → Ends steps (mend v k g (Err f)) b r e
+  unfolding mend
+  mends sum missing r f asked put = ends_bind steps (gather v g k) (λ q. put_back k g q) b m e (gathered sum missing) r asked put
+
+  pub no_member : (n : ℕ) → n ≡ member_count_of (state_of v g) v.shape.servers v.filled → n ≤ k → Ends steps (visit v k g) b Intact b
+  unfolding visit
+  no_member n is h = rw (sym is, le-ltb k n h) (ends_give steps Intact b)
+
+  pub visits : (n len : ℕ) (a : Result (List ℕ) Fault) (r : Visit) → n ≡ member_count_of (state_of v g) v.shape.servers v.filled → k < n → len ≡ 512 → steps b k (to_get g len) a m → Ends steps (mend v k g a) m r e → Ends steps (visit v k g) b r e
+  unfolding visit
+  visits n len a r is h l st run = rw (sym is, lt-ltb k n h) (ends_ask steps k (to_get g 512) (λ d. mend v k g d) b m e a r (whole_get steps b m k g len a l st) run)
+
+module _ {B : Type 0} (steps : RowRule B) (v : Tables) (j : Progress) (b e : B) where
+  pub goes_on : (r : Visit) (k : Progress) → j.group < j.groups → Ends steps (visit v j.server j.group) b r e → k ≡ counted j r → Ends steps (step_unless None v j) b (stepped (Ok tt) k) e
+  goes_on r k h run is =
+      rw (lt-ltb j.group j.groups h) (ends_bind steps (visit v j.server j.group) (λ q. give (stepped (Ok tt) (counted j q))) b e e r (stepped (Ok tt) k) run (subst (λ (q : Progress). Ends {N = Finding} steps (give (stepped (Ok tt) q)) e (stepped (Ok tt) k) e) is (ends_give steps (stepped (Ok tt) k) e)))

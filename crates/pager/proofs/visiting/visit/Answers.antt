@@ -1,0 +1,23 @@
+use Rattle.std.proofs.Common.{length, ap}
+use Rattle.pager.proofs.VisitLaws.{no_member, visits, delivers}
+use Rattle.pager.proofs.visiting.visit.Goals as goal
+
+pub returns-then-server-member_count : goal.returns-then-server-member_count
+returns-then-server-member_count g c =
+    let b = c.args.bank.now in
+    record { order = c.requires.0; ran = no_member g.B.Bank.steps c.args.tables.now c.args.server c.args.group b b b c.member_count.result c.member_count.ensures c.if-server-member_count.true }
+
+pub returns-in-Ok : goal.returns-in-Ok
+returns-in-Ok g c =
+    let steps = g.B.Bank.steps in
+    let m = c.get.new.self in
+    record {
+      order = c.get.ensures.order;
+      ran = visits steps c.args.tables.now c.args.server c.args.group c.args.bank.now m m c.member_count.result _ _ _ c.member_count.ensures c.if-server-member_count.false (ap length c.zero-page.ensures) c.in-Ok.ensures.steps (delivers steps c.args.tables.now c.args.server c.args.group m m m _);
+    }
+
+pub returns-in-Err : goal.returns-in-Err
+returns-in-Err g c = record {
+  order = c.mend.ensures.order;
+  ran = visits g.B.Bank.steps c.args.tables.now c.args.server c.args.group c.args.bank.now c.get.new.self c.mend.new.bank c.member_count.result _ _ _ c.member_count.ensures c.if-server-member_count.false (ap length c.zero-page.ensures) c.in-Err.ensures.steps (c.mend.ensures.ran _);
+}

@@ -1,0 +1,85 @@
+ghost use Rattle.std.specs.Prelude.{◌≡◌, ◌+◌, ◌≤◌, Ok as Done};
+ghost use Rattle.law.specs.Runs.{Happens, Moment, begins, closes, steps};
+ghost use Rattle.parity_log.specs.Rebuilding.{begin as begin_rule, counts, step as step_rule, stepped};
+ghost use Rattle.parity_log.specs.Rule.{Ends};
+ghost use Rattle.pager.specs.Admitted.{AdmittedJob};
+ghost use Rattle.pager.specs.Jobs.{progress_of};
+ghost use Rattle.pager.specs.Moments.{Turns, moment_of};
+ghost use Rattle.pager.specs.Order.{Ordered};
+
+use crate::Pager;
+use crate::job::RebuildJob;
+use crate::visiting::{admit_job, visit_next};
+use bank::Bank;
+use page::{Fault, Layer, Refusal};
+use parity_log::{Counts, Progress};
+
+impl<B: Bank> Pager<B> {
+    // Begins a rebuild of a data server or, by the number after theirs, of the parity server.
+    pub fn begin(&self, server: usize) -> Result<RebuildJob, Fault>
+        ensures begun { progress_of result ≡ begin_rule self.now.ledger.tables server }
+        ensures turn { Happens (moment_of B.Bank.count B.Bank.means self.now) (begins server (progress_of result)) (moment_of B.Bank.count B.Bank.means self.now) }
+    {
+        let shape = self.ledger.tables.shape;
+        if !shape.is_within() {
+            return Err(Fault::new(Layer::Log, Refusal::Shape));
+        }
+        if server > shape.servers {
+            return Err(Fault::new(Layer::Log, Refusal::Range));
+        }
+        let progress = Progress {
+            server,
+            group: 0,
+            rebuilt: 0,
+            failed: 0,
+            servers: shape.servers,
+            groups: shape.groups,
+        };
+        Ok(RebuildJob { progress })
+    }
+
+    // A step, once nothing is objected to.
+    fn step_admitted(&mut self, progress: Progress) -> Progress
+        requires { (Ordered B.Bank.order B.Bank.count B.Bank.means self.old) × ((AdmittedJob self.old.ledger.tables progress) × (progress.rebuilt + progress.failed ≤ progress.group)) }
+        ensures order { Ordered B.Bank.order B.Bank.count B.Bank.means self.new }
+        ensures counted { result.rebuilt + result.failed ≤ result.group }
+        ensures tables { self.new.ledger ≡ self.old.ledger }
+        ensures ran { Ends B.Bank.steps (step_rule self.old.ledger.tables progress) self.old.bank (stepped (Done tt) result) self.new.bank }
+        ensures turn { Turns (moment_of B.Bank.count B.Bank.means self.old) (λ fs. steps progress (Done tt) result fs) (moment_of B.Bank.count B.Bank.means self.new) }
+    {
+        visit_next(&mut self.bank, &self.ledger.tables, progress)
+    }
+
+    // Visits one group for the job, or none past the last, and gives the job back.
+    pub fn step(&mut self, job: RebuildJob) -> (RebuildJob, Result<(), Fault>)
+        requires { Ordered B.Bank.order B.Bank.count B.Bank.means self.old }
+        ensures order { Ordered B.Bank.order B.Bank.count B.Bank.means self.new }
+        ensures tables { self.new.ledger ≡ self.old.ledger }
+        ensures ran { Ends B.Bank.steps (step_rule self.old.ledger.tables job.progress) self.old.bank (stepped result.1 result.0.progress) self.new.bank }
+        ensures turn { Turns (moment_of B.Bank.count B.Bank.means self.old) (λ fs. steps job.progress result.1 result.0.progress fs) (moment_of B.Bank.count B.Bank.means self.new) }
+    {
+        let RebuildJob { progress } = job;
+        match admit_job(&self.ledger.tables, progress) {
+            Ok(_) => {
+                let progress = self.step_admitted(progress);
+                (RebuildJob { progress }, Ok(()))
+            }
+            Err(fault) => (RebuildJob { progress }, Err(fault)),
+        }
+    }
+}
+
+impl RebuildJob {
+    // Ends the rebuild, wherever it is; answers what it came to.
+    pub fn close(self) -> Counts
+        ensures counts { result ≡ counts self.progress }
+        ensures turn { (m : Moment) → Happens m (closes self.progress result) m }
+    {
+        let RebuildJob { progress } = self;
+        Counts {
+            rebuilt: progress.rebuilt,
+            failed: progress.failed,
+            unvisited: progress.groups.saturating_sub(progress.group),
+        }
+    }
+}
