@@ -1,10 +1,11 @@
 """What the program loss_runs prints, worked out without it.
 
-The servers are written from docs/SERVERS.md and the pager from docs/LOG.md, rule by rule and under
-the documents' own headings. No document has the drive (which call comes when, over which servers, and
-what is counted); it is that of crates/loss_runs/src.
+The memory server and the mirror are written from docs/SERVERS.md and the pager from docs/LOG.md, rule
+by rule and under the documents' own headings; where these are silent, from the definitions in
+crates/parity_log/specs. The draws are those of crates/fickle/src, and the drive (which call comes when,
+over which servers, and what is counted), which no document has, is that of crates/loss_runs/src.
 
-Run: python3 loss_model.py
+Run: python3 tools/loss_model.py
 """
 
 PAGE_SIZE = 512

@@ -6,7 +6,8 @@ usage: python3 tools/respell.py [--dry]     at the top of a checkout, once, afte
 Words go to snake case: a definition, lemma, constructor or record field of specs/ or proofs/ that is written with dashes or humps, as
 `xorPage` or `read-law`, becomes `xor_page` or `read_law`. Types, facts and modules keep their capitals; names that join an operator, as
 `found-++`, keep their dash; names that Rattle makes (the goals in Answers.antt, the invariants) are its own and stay.
-The crate `log` becomes `parity_log`, since the kit has a library of the name `log`.
+The crate `log` becomes `parity_log`, since the kit has a library of the name `log`. Names given by `as` in an import are turned too; an edit gets
+only the crate's new name. It prints names that would fall together or are taken; with --dry it writes nothing.
 """
 
 import os

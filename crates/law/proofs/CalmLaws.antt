@@ -7,8 +7,7 @@ use Rattle.page.specs.Refusals.{same_refusal}
 use Rattle.parity_log.specs.declared.records.Tables.{Tables}
 use Rattle.parity_log.specs.Reading.{Finding}
 use Rattle.law.specs.Rows.{Row}
-use Rattle.law.specs.Book.{Entry, has, nothing, lost, Book, written, found, heard, heard_page, refused}
-use Rattle.law.specs.Book.{latest}
+use Rattle.law.specs.Book.{Entry, has, nothing, lost, Book, written, found, heard, heard_page, refused, latest}
 use Rattle.law.specs.Law.{PagedOut}
 use Rattle.law.specs.Runs.{Moment, Turn, makes, pages_out, pages_in, frees, begins, steps, closes, loses, returns, Goes, Run, noted, book_from}
 use Rattle.law.proofs.FaultLaws.{as_lost}

@@ -7,9 +7,8 @@ use Rattle.parity_log.specs.Reading.{Finding}
 use Rattle.parity_log.specs.Tables.{within, initial}
 use Rattle.parity_log.proofs.OpeningLaws.{initial_settled}
 use Rattle.law.specs.Rows.{Row}
-use Rattle.law.specs.Book.{nothing}
+use Rattle.law.specs.Book.{nothing, latest}
 use Rattle.law.specs.Law.{NothingMissing, Healthy, OnlyAt, Rebuilt, Lawful}
-use Rattle.law.specs.Book.{latest}
 use Rattle.law.specs.Runs.{Moment, Turn, pages_out, pages_in, Happens, Run, book, findings, last_from, last_found}
 use Rattle.law.proofs.FreeLaw.{LostRight}
 use Rattle.law.proofs.FreshLaw.{fresh_inv}

@@ -16,8 +16,7 @@ use Rattle.parity_log.specs.Rebuilding.{begun, begin, counted, stepped}
 use Rattle.parity_log.specs.Tables.{within}
 use Rattle.law.specs.Rows.{Row, slots}
 use Rattle.law.specs.Missing.{members_on, Missing}
-use Rattle.law.specs.Book.{Book}
-use Rattle.law.specs.Book.{latest}
+use Rattle.law.specs.Book.{Book, latest}
 use Rattle.law.specs.Law.{NothingMissing, Thread, ended, between, stepping, Rebuilt}
 use Rattle.law.specs.Runs.{Moment, Turn, steps, Happens, Run, noted}
 use Rattle.law.proofs.Mode.{Still}

@@ -11,8 +11,7 @@ use Rattle.parity_log.specs.Reading.{Finding}
 use Rattle.parity_log.specs.Rule.{Rule, Runs}
 use Rattle.parity_log.specs.Tables.{within}
 use Rattle.law.specs.Rows.{Row, RowStep}
-use Rattle.law.specs.Book.{Book}
-use Rattle.law.specs.Book.{latest}
+use Rattle.law.specs.Book.{Book, latest}
 use Rattle.law.specs.Runs.{Moment, Turn, makes, pages_out, pages_in, frees, begins, steps, closes, loses, returns, Goes, Happens, Run, noted, book_from, findings, last_from}
 use Rattle.law.proofs.Mode.{Still, loosely, Mode}
 use Rattle.law.proofs.StepLaws.{Good, mode, quieten, runs_era}

@@ -21,7 +21,7 @@ pub record Healthy (m : Moment) : Type 0 where
   pub whole : NothingMissing m
 
 -- no server but x has another era at the second moment. An era never falls, and a server that falls or loses anything raises its own:
--- so of all that happened between the two, nothing happened to a server but x.
+-- so where all were up at the first, none but x fell, lost anything or came back between the two.
 abbrev pub OnlyAt : ℕ → Moment → Moment → Type 0
 OnlyAt x m n = (k : ℕ) → k < m.servers → (k ≢ x) → (n.row k).era ≡ (m.row k).era
 

@@ -11,8 +11,7 @@ use Rattle.parity_log.specs.Reading.{Finding, pagein}
 use Rattle.parity_log.specs.Rebuilding.{begin, stepped, step, counts}
 use Rattle.parity_log.specs.Rule.{Runs}
 use Rattle.law.specs.Rows.{Row, RowStep}
-use Rattle.law.specs.Book.{has, nothing, Book, found, heard, heard_page}
-use Rattle.law.specs.Book.{latest}
+use Rattle.law.specs.Book.{has, nothing, Book, found, heard, heard_page, latest}
 
 -- a pager between two calls: its tables, how many servers it has, the parity server with them, and what each of them means
 pub record Moment : Type 0 where

@@ -5,7 +5,7 @@ use bank::Bank;
 use page::Fault;
 use pager::Pager;
 
-// Makes a pager, pages a page out and in again. Whatever the servers do between and within the calls, what comes back is what was written.
+// Makes a pager, pages a page out and in again. Whatever the servers do within the calls, what comes back is what was written.
 pub fn write_then_read<B: Bank>(
     pager: &mut Pager<B>,
     bytes: &[u8],
