@@ -47,69 +47,58 @@ module _ {T : Type 0} (rule : Meaning → Result T Fault → Meaning → Type 0)
       }
 
 -- a row's step, as what it reaches
-pub row_reached : {S : Type 0} {count : S → ℕ} {means : S → ℕ → Meaning} {order : S → Type 0} {steps : RowRule S} → Rowed count means order steps → (s : S) (i : ℕ) (c : Call) (a : Answer c) (t : S) → order s → steps s i c a t → Reaches (StepBy c) (count s) (means s) i a (count t) (means t)
-row_reached {means = means} laws s i c a t o r =
+pub row_reached : {S : Type 0} {count : S → ℕ} {means : S → ℕ → Meaning} {steps : RowRule S} → Rowed count means steps → (s : S) (i : ℕ) (c : Call) (a : Answer c) (t : S) → steps s i c a t → Reaches (StepBy c) (count s) (means s) i a (count t) (means t)
+row_reached {means = means} laws s i c a t r =
     record {
-      here = laws.meets s i c a t o r;
-      past = λ h. let q = laws.past s i c a t o r h in (q.0, λ j. ap (λ u. means u j) q.1);
-      others = laws.others s i c a t o r;
-      keeps = laws.keeps s i c a t o r;
+      here = laws.meets s i c a t r;
+      past = λ h. let q = laws.past s i c a t r h in (q.0, λ j. ap (λ u. means u j) q.1);
+      others = laws.others s i c a t r;
+      keeps = laws.keeps s i c a t r;
     }
 
 -- a pair: a server and the rest of the row, which make the whole
-module _ {S X Y : Type 0} (server : S → X) (rest : S → Y) (whole : (s t : S) → server t ≡ server s → rest t ≡ rest s → t ≡ s) {meaning : X → Meaning} {order : X → Type 0} {steps : X → (c : Call) → Answer c → X → Type 0} {count : Y → ℕ} {means : Y → ℕ → Meaning} {restOrder : Y → Type 0} {restSteps : RowRule Y} (laws : Lawful meaning order steps) (restLaws : Rowed count means restOrder restSteps) where
+module _ {S X Y : Type 0} (server : S → X) (rest : S → Y) (whole : (s t : S) → server t ≡ server s → rest t ≡ rest s → t ≡ s) {meaning : X → Meaning} {steps : X → (c : Call) → Answer c → X → Type 0} {count : Y → ℕ} {means : Y → ℕ → Meaning} {restSteps : RowRule Y} (laws : Lawful meaning steps) (restLaws : Rowed count means restSteps) where
   abbrev PairMeans : S → ℕ → Meaning
   PairMeans s = means_at (meaning (server s)) (means (rest s))
-
-  abbrev PairOrder : S → Type 0
-  PairOrder s = order (server s) × restOrder (rest s)
 
   abbrev PairSteps : RowRule S
   PairSteps s i c a t = Pairs (λ x y. steps x c a y) (λ x j y. restSteps x j c a y) (server s) (rest s) i (server t) (rest t)
 
-  pair_reached : (s : S) (i : ℕ) (c : Call) (a : Answer c) (t : S) → PairOrder s → PairSteps s i c a t → Reaches (StepBy c) (count (rest s) + 1) (PairMeans s) i a (count (rest t) + 1) (PairMeans t)
-  pair_reached s i c a t o r =
+  pair_reached : (s : S) (i : ℕ) (c : Call) (a : Answer c) (t : S) → PairSteps s i c a t → Reaches (StepBy c) (count (rest s) + 1) (PairMeans s) i a (count (rest t) + 1) (PairMeans t)
+  pair_reached s i c a t r =
       by_first i
-      (λ e. first_reached (StepBy c) _ _ _ _ _ _ i a e (laws.meets (server s) c a (server t) o.0 (r.here e).0) (ap means (r.here e).1) (ap count (r.here e).1))
-      (λ h. rest_reached (StepBy c) _ _ _ _ _ _ i a h (ap meaning (r.there h).1) (row_reached restLaws (rest s) (i - 1) c a (rest t) o.1 (r.there h).0))
+      (λ e. first_reached (StepBy c) _ _ _ _ _ _ i a e (laws.meets (server s) c a (server t) (r.here e).0) (ap means (r.here e).1) (ap count (r.here e).1))
+      (λ h. rest_reached (StepBy c) _ _ _ _ _ _ i a h (ap meaning (r.there h).1) (row_reached restLaws (rest s) (i - 1) c a (rest t) (r.there h).0))
 
-  pair_sound : (s : S) (i : ℕ) → PairOrder s → i < count (rest s) + 1 → Sound (PairMeans s i)
-  pair_sound s i o l =
+  pair_sound : (s : S) (i : ℕ) → i < count (rest s) + 1 → Sound (PairMeans s i)
+  pair_sound s i l =
       by_first i
-      (λ e. subst Sound (sym (at_first (meaning (server s)) (means (rest s)) i e)) (laws.sound (server s) o.0))
-      (λ h. subst Sound (sym (at_rest (meaning (server s)) (means (rest s)) i h)) (restLaws.sound (rest s) (i - 1) o.1 (omega arith)))
+      (λ e. subst Sound (sym (at_first (meaning (server s)) (means (rest s)) i e)) (laws.sound (server s)))
+      (λ h. subst Sound (sym (at_rest (meaning (server s)) (means (rest s)) i h)) (restLaws.sound (rest s) (i - 1) (omega arith)))
 
-  pair_stays : (s : S) (i : ℕ) (c : Call) (a : Answer c) (t : S) → PairOrder s → PairSteps s i c a t → PairOrder t
-  pair_stays s i c a t o r =
-      by_first i
-      (λ e. (laws.stays (server s) c a (server t) o.0 (r.here e).0, subst restOrder (sym (r.here e).1) o.1))
-      (λ h. (subst order (sym (r.there h).1) o.0, restLaws.stays (rest s) (i - 1) c a (rest t) o.1 (r.there h).0))
-
-  pair_past : (s : S) (i : ℕ) (c : Call) (a : Answer c) (t : S) → PairOrder s → PairSteps s i c a t → count (rest s) + 1 ≤ i → (a ≡ Err absent) × (t ≡ s)
-  pair_past s i c a t o r l =
+  pair_past : (s : S) (i : ℕ) (c : Call) (a : Answer c) (t : S) → PairSteps s i c a t → count (rest s) + 1 ≤ i → (a ≡ Err absent) × (t ≡ s)
+  pair_past s i c a t r l =
       let h : 0 < i = omega arith in
-      let q = restLaws.past (rest s) (i - 1) c a (rest t) o.1 (r.there h).0 (omega arith) in
+      let q = restLaws.past (rest s) (i - 1) c a (rest t) (r.there h).0 (omega arith) in
       (q.0, whole s t (r.there h).1 q.1)
 
-  pub pair_laws : Rowed (λ s. count (rest s) + 1) PairMeans PairOrder PairSteps
+  pub pair_laws : Rowed (λ s. count (rest s) + 1) PairMeans PairSteps
   pair_laws =
       record {
         sound = pair_sound;
-        stays = pair_stays;
-        meets = λ s i c a t o r. (pair_reached s i c a t o r).here;
-        others = λ s i c a t o r. (pair_reached s i c a t o r).others;
+        meets = λ s i c a t r. (pair_reached s i c a t r).here;
+        others = λ s i c a t r. (pair_reached s i c a t r).others;
         past = pair_past;
-        keeps = λ s i c a t o r. (pair_reached s i c a t o r).keeps;
+        keeps = λ s i c a t r. (pair_reached s i c a t r).keeps;
       }
 
 -- a row of none
-pub end_laws : {S : Type 0} → Rowed {S = S} (λ s. 0) (λ s i. nowhere) (λ s. Unit {0}) (λ s i c a t. (a ≡ Err absent) × (t ≡ s))
+pub end_laws : {S : Type 0} → Rowed {S = S} (λ s. 0) (λ s i. nowhere) (λ s i c a t. (a ≡ Err absent) × (t ≡ s))
 end_laws =
     record {
-      sound = λ s i o l. absurd (omega arith);
-      stays = λ s i c a t o r. tt;
-      meets = λ s i c a t o r l. absurd (omega arith);
-      others = λ s i c a t o r j ne. refl;
-      past = λ s i c a t o r l. r;
-      keeps = λ s i c a t o r. refl;
+      sound = λ s i l. absurd (omega arith);
+      meets = λ s i c a t r l. absurd (omega arith);
+      others = λ s i c a t r j ne. refl;
+      past = λ s i c a t r l. r;
+      keeps = λ s i c a t r. refl;
     }

@@ -41,13 +41,12 @@ pub record Reaches {T : Type 0} (rule : Meaning → Result T Fault → Meaning �
   pub keeps : n' ≡ n
 
 -- what a kind of row owes; past the end a call is refused, and the row is the same value
-pub record Rowed {S : Type 0} (count : S → ℕ) (means : S → ℕ → Meaning) (order : S → Type 0) (steps : RowRule S) : Type 0 where
-  pub sound : (s : S) (i : ℕ) → order s → i < count s → Sound (means s i)
-  pub stays : (s : S) (i : ℕ) (c : Call) (a : Answer c) (t : S) → order s → steps s i c a t → order t
-  pub meets : (s : S) (i : ℕ) (c : Call) (a : Answer c) (t : S) → order s → steps s i c a t → i < count s → Step (means s i) c a (means t i)
-  pub others : (s : S) (i : ℕ) (c : Call) (a : Answer c) (t : S) → order s → steps s i c a t → (j : ℕ) → (j ≢ i) → means t j ≡ means s j
-  pub past : (s : S) (i : ℕ) (c : Call) (a : Answer c) (t : S) → order s → steps s i c a t → count s ≤ i → (a ≡ Err absent) × (t ≡ s)
-  pub keeps : (s : S) (i : ℕ) (c : Call) (a : Answer c) (t : S) → order s → steps s i c a t → count t ≡ count s
+pub record Rowed {S : Type 0} (count : S → ℕ) (means : S → ℕ → Meaning) (steps : RowRule S) : Type 0 where
+  pub sound : (s : S) (i : ℕ) → i < count s → Sound (means s i)
+  pub meets : (s : S) (i : ℕ) (c : Call) (a : Answer c) (t : S) → steps s i c a t → i < count s → Step (means s i) c a (means t i)
+  pub others : (s : S) (i : ℕ) (c : Call) (a : Answer c) (t : S) → steps s i c a t → (j : ℕ) → (j ≢ i) → means t j ≡ means s j
+  pub past : (s : S) (i : ℕ) (c : Call) (a : Answer c) (t : S) → steps s i c a t → count s ≤ i → (a ≡ Err absent) × (t ≡ s)
+  pub keeps : (s : S) (i : ℕ) (c : Call) (a : Answer c) (t : S) → steps s i c a t → count t ≡ count s
 
 -- a server before the rest of a row: exactly one of them moves, and the other is the same value
 pub record Pairs {X Y : Type 0} (first : X → X → Type 0) (rest : Y → ℕ → Y → Type 0) (x : X) (y : Y) (i : ℕ) (x' : X) (y' : Y) : Type 0 where

@@ -5,8 +5,6 @@ use page::{Fault, PAGE_SIZE};
 
 // Gets a page from one server and puts it on another, at the same slot.
 pub fn copy_page<B: Bank>(bank: &mut B, from: usize, to: usize, slot: usize) -> Result<(), Fault>
-    requires { B.Bank.order bank.old }
-    ensures order { B.Bank.order bank.new }
     ensures steps { Copies B.Bank.steps bank.old from to slot result bank.new }
     ensures copied { Copied result slot (B.Bank.means bank.old from) (B.Bank.means bank.new to) }
 {

@@ -24,40 +24,29 @@ pub trait Bank {
     // What each server is to its callers.
     ghost means: { Self → ℕ → Meaning };
 
-    // What the servers need: making gives it, and every call keeps it.
-    ghost order: { Self → Type 0 };
-
     // The row's own rule: what one call on a server answers, and what it leaves.
     ghost steps: { Self → ℕ → (c : Call) → Answer c → Self → Type 0 };
 
     // The rule is one of a row of page servers, as its callers know it.
-    ghost laws: { Rowed count means order steps };
+    ghost laws: { Rowed count means steps };
 
     // The count, or the largest number where it is more.
     fn servers(&self) -> usize
-        requires { order self.now }
         ensures { result ≡ min (count self.now) 18446744073709551615 };
 
     // That server's size.
     fn size(&self, server: usize) -> Result<usize, Fault>
-        requires { order self.now }
         ensures { SizeAt (count self.now) (means self.now) server result };
 
     fn put(&mut self, server: usize, slot: usize, page: &[u8]) -> Result<(), Fault>
-        requires { order self.old }
-        ensures order { order self.new }
-        ensures steps { steps self.old server (to_put slot page.now) result self.new };
+        ensures { steps self.old server (to_put slot page.now) result self.new };
 
     fn get(&mut self, server: usize, slot: usize, buffer: &mut [u8]) -> Result<(), Fault>
-        requires { order self.old }
-        ensures order { order self.new }
         ensures steps { steps self.old server (to_get slot (length buffer.old)) (filled result buffer.new) self.new }
         ensures left { Left result buffer.old buffer.new };
 
     fn free(&mut self, server: usize, slot: usize) -> Result<(), Fault>
-        requires { order self.old }
-        ensures order { order self.new }
-        ensures steps { steps self.old server (to_free slot) result self.new };
+        ensures { steps self.old server (to_free slot) result self.new };
 }
 
 // A row whose servers can be made to fall and be brought back.
@@ -68,14 +57,10 @@ pub trait PullableBank: Bank {
     ghost backs: { Self → ℕ → Outcome (Unit {0}) Refused → Self → Type 0 };
 
     fn fall(&mut self, server: usize) -> Result<(), Fault>
-        requires { Self.order self.old }
-        ensures order { Self.order self.new }
         ensures falls { falls self.old server result self.new }
         ensures meets { Reaches Fell (Self.count self.old) (Self.means self.old) server result (Self.count self.new) (Self.means self.new) };
 
     fn back(&mut self, server: usize) -> Result<(), Fault>
-        requires { Self.order self.old }
-        ensures order { Self.order self.new }
         ensures backs { backs self.old server result self.new }
         ensures meets { Reaches Backs (Self.count self.old) (Self.means self.old) server result (Self.count self.new) (Self.means self.new) };
 }

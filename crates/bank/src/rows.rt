@@ -25,8 +25,6 @@ impl<S: PageServer, B: Bank> Bank for Pair<S, B> {
 
     ghost means = { λ s. means_at (S.PageServer.meaning s.0) (B.Bank.means s.1) };
 
-    ghost order = { λ s. S.PageServer.order s.0 × B.Bank.order s.1 };
-
     ghost steps = { λ s i c a t. Pairs (λ x y. S.PageServer.steps x c a y) (λ x j y. B.Bank.steps x j c a y) s.0 s.1 i t.0 t.1 };
 
     ghost laws = { pair_laws (λ s. s.0) (λ s. s.1) (λ s t p q i. (p i, q i)) S.PageServer.laws B.Bank.laws };
@@ -72,8 +70,6 @@ impl Bank for End {
     ghost count = { λ _. 0 };
 
     ghost means = { λ _ _. nowhere };
-
-    ghost order = { λ _. Unit {0} };
 
     ghost steps = { λ s i c a t. (a ≡ Err absent) × (t ≡ s) };
 

@@ -1,38 +1,17 @@
 -- What a call in good form leaves of a server, whether it is up or down.
-use Rattle.std.specs.Prelude.{◌≡◌, ℕ, ◌<◌, ◌≤◌, Bool, true, false, ◌⊎◌, ◌==◌, nat_lt, refl}
-use Rattle.std.proofs.Common.{sym, ap, subst, ◌∙◌, inl, inr, ⊎_elim, arith, eqb-true, ltb-true, ltb-false}
-use Rattle.std.proofs.lemmas.Bool.{eqb-false}
-use Rattle.server.specs.Meaning.{Held, nothing, holds, Meaning, Sound, SameOrNothing}
+use Rattle.std.specs.Prelude.{◌≡◌, ℕ, ◌≤◌, true, ◌==◌, refl}
+use Rattle.std.proofs.Common.{sym, ap, subst, ◌∙◌, inl, inr, ⊎_elim, arith, eqb-true}
+use Rattle.std.proofs.lemmas.Bool.{cases_Bool, eqb-false}
+use Rattle.server.specs.Meaning.{Held, Meaning, Sound, SameOrNothing}
 use Rattle.server.specs.Calls.{Call, to_put, to_get, to_free, slot_of, Answer}
-use Rattle.server.specs.Steps.{Fine, Down, Kept, Raised, Fewer, Step}
+use Rattle.server.specs.Steps.{Fine, Raised, Fewer, Step}
 use Rattle.server.specs.Pulls.{Falls}
-
-pub true_or_false : (b : Bool) → (b ≡ true) ⊎ (b ≡ false)
-true_or_false true = inl refl
-true_or_false false = inr refl
-
-same_or_more : (a b : ℕ) → a ≤ b → (b ≡ a) ⊎ (a < b)
-same_or_more a b h =
-    ⊎_elim (λ e. inr (ltb-true a b e)) (λ e. let q = ltb-false a b e in inl (omega arith)) (true_or_false (nat_lt a b))
-
-pub clash : {A : Type 0} → ◌≡◌ {A = ℕ} 0 1 → A
-clash z = let w : ⊥ = omega arith in absurd w
+use Rattle.server.specs.Ways.{clash, same_or_more, same_meaning, named_raised}
 
 pub still_same_or_nothing : {h k l : Held} → SameOrNothing h k → SameOrNothing k l → SameOrNothing h l
 still_same_or_nothing e (inr f) = inr f
 still_same_or_nothing (inl e) (inl f) = inl (f ∙ e)
 still_same_or_nothing (inr e) (inl f) = inr (f ∙ e)
-
-kept_raised : (c : Call) (h : Held) (a : Answer c) (k : Held) → Kept c h a k → Raised c h a k
-kept_raised (to_put s p) h a k r = inl r
-kept_raised (to_get s n) nothing a k r = inr r
-kept_raised (to_get s n) (holds p) a k r = inl (p, refl, r.0, r.1)
-kept_raised (to_free s) h a k r = r
-
-down_raised : (c : Call) (h : Held) (a : Answer c) (k : Held) → k ≡ nothing → Down c a → Raised c h a k
-down_raised (to_put s p) h a k e d = inr (d, e)
-down_raised (to_get s n) h a k e d = inr (d, e)
-down_raised (to_free s) h a k e d = (d, e)
 
 -- a slot that was emptied before the call is to the caller a slot that the call lost
 pub emptied_raised : (c : Call) (h i : Held) (a : Answer c) (k : Held) → SameOrNothing h i → Raised c i a k → Raised c h a k
@@ -48,14 +27,7 @@ module _ {m n : Meaning} (c : Call) {a : Answer c} (sound : Sound m) (fine : Fin
       ⊎_elim
       (λ u. ⊎_elim (λ e k ne. inl ((step.kept fine u e).1 k ne)) (λ l. (step.raised fine u l).0) (same_or_more m.era n.era step.era))
       (λ d k _. inl (ap (λ (x : Meaning). x.held k) (step.down fine d).1))
-      (true_or_false m.up)
-
-  pub named_raised : Raised c (m.held (slot_of c)) a (n.held (slot_of c))
-  named_raised =
-      ⊎_elim
-      (λ u. ⊎_elim (λ e. kept_raised c _ a _ (step.kept fine u e).2) (λ l. (step.raised fine u l).1) (same_or_more m.era n.era step.era))
-      (λ d. let r = step.down fine d in down_raised c _ a _ (ap (λ (x : Meaning). x.held (slot_of c)) r.1 ∙ sound.down d (slot_of c)) r.0)
-      (true_or_false m.up)
+      (cases_Bool m.up)
 
 -- as large, with no smaller era, and each slot holds what it held or nothing
 pub record Emptier (m n : Meaning) : Type 0 where
@@ -75,7 +47,7 @@ call_empties {m} {n} c sound fine step spares = record {
       ⊎_elim
       (λ e. subst (λ (j : ℕ). SameOrNothing (m.held j) (n.held j)) (sym (eqb-true k (slot_of c) e)) (spares _ _ (named_raised c sound fine step)))
       (λ e. others_fewer c sound fine step k (eqb-false k (slot_of c) e))
-      (true_or_false (k == slot_of c));
+      (cases_Bool (k == slot_of c));
 }
 
 pub get_empties : {m n : Meaning} (s l : ℕ) {a : Answer (to_get s l)} → Sound m → Fine m (to_get s l) → Step m (to_get s l) a n → Emptier m n
@@ -89,16 +61,13 @@ fall_empties {m} {n} f =
     ⊎_elim
     (λ u. let l = (f.up u).1 in record { size = f.size; era = omega arith; slots = λ k. inr ((f.up u).2 k) })
     (λ d. subst (Emptier m) (sym (f.down d)) (record { size = refl; era = omega arith; slots = λ _. inl refl }))
-    (true_or_false m.up)
-
-same_meaning : {m n : Meaning} → n.size ≡ m.size → n.up ≡ m.up → n.era ≡ m.era → ((k : ℕ) → n.held k ≡ m.held k) → n ≡ m
-same_meaning s u e h = λ i. record { size = s i; up = u i; era = e i; held = λ k. h k i }
+    (cases_Bool m.up)
 
 -- a get on a server whose era is kept changes nothing of what it means
 pub get_still : {m n : Meaning} (s l : ℕ) {a : Answer (to_get s l)} → Fine m (to_get s l) → Step m (to_get s l) a n → n.era ≡ m.era → n ≡ m
-get_still {m} {n} s l fine step e = ⊎_elim up (λ d. (step.down fine d).1) (true_or_false m.up)
+get_still {m} {n} s l fine step e = ⊎_elim up (λ d. (step.down fine d).1) (cases_Bool m.up)
   where
     up : m.up ≡ true → n ≡ m
     up u =
         let k = step.kept fine u e in
-        same_meaning step.size (k.0 ∙ sym u) e (λ j. ⊎_elim (λ f. subst (λ (i : ℕ). n.held i ≡ m.held i) (sym (eqb-true j s f)) k.2.1) (λ f. k.1 j (eqb-false j s f)) (true_or_false (j == s)))
+        same_meaning step.size (k.0 ∙ sym u) e (λ j. ⊎_elim (λ f. subst (λ (i : ℕ). n.held i ≡ m.held i) (sym (eqb-true j s f)) k.2.1) (λ f. k.1 j (eqb-false j s f)) (cases_Bool (j == s)))

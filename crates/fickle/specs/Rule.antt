@@ -33,11 +33,11 @@ Unharmed s t = (t.below ≡ s.below) × (t.losses ≡ s.losses)
 abbrev pub Undrawn : {X : Type 0} → Fickle X → Fickle X → Type 0
 Undrawn s t = (t.draws ≡ s.draws) × (t.odds ≡ s.odds)
 
-module _ {X : Type 0} (mx : X → Meaning) (ox : X → Type 0) (rx : Rule X) (fx : X → X → Type 0) where
+module _ {X : Type 0} (mx : X → Meaning) (rx : Rule X) (fx : X → X → Type 0) where
   -- one slot is freed below, or the server below falls
   abbrev pub Loses : Mishap → X → ℕ → X → Type 0
   Loses Page x v y = (a : Reply) × rx x (to_free v) a y
-  Loses Fall x v y = ox y × fx x y × Falls (mx x) (mx y)
+  Loses Fall x v y = fx x y × Falls (mx x) (mx y)
 
   -- no page is found at the slot
   abbrev pub Misses : Strike → Fickle X → Fickle X → Type 0

@@ -1,11 +1,13 @@
 -- What may come over a server before a call, so that the two together are one call.
 use Rattle.std.specs.Prelude.{◌≡◌, ℕ, ◌+◌, true, false, List, Ok, refl}
 use Rattle.std.proofs.Common.{sym, ap, subst, ◌∙◌, inl, inr, ⊎_elim, arith}
+use Rattle.std.proofs.lemmas.Bool.{cases_Bool}
 use Rattle.server.specs.Meaning.{Meaning, Sound}
 use Rattle.server.specs.Calls.{Call, to_get, slot_of, Answer, Denied}
 use Rattle.server.specs.Steps.{Fine, Step}
+use Rattle.server.specs.Ways.{clash, named_raised}
 use Rattle.fickle.specs.Rule.{with_losses}
-use Rattle.fickle.specs.Leaving.{clash, true_or_false, still_same_or_nothing, emptied_raised, others_fewer, named_raised, Emptier, get_empties, get_still}
+use Rattle.fickle.specs.Leaving.{still_same_or_nothing, emptied_raised, others_fewer, Emptier, get_empties, get_still}
 
 -- slots are emptied only where the era rises, and a server that is down is left
 pub record Thinned (m n : Meaning) : Type 0 where
@@ -46,7 +48,7 @@ losses_sound l sound = record { down = sound.down; past = sound.past }
 
 -- a server that hands over a page is up
 pub delivered_up : {m n : Meaning} (s l : ℕ) (p : List ℕ) → Fine m (to_get s l) → Step m (to_get s l) (Ok p) n → m.up ≡ true
-delivered_up {m} s l p fine step = ⊎_elim (λ u. u) (λ d. not_denied (step.down fine d).0) (true_or_false m.up)
+delivered_up {m} s l p fine step = ⊎_elim (λ u. u) (λ d. not_denied (step.down fine d).0) (cases_Bool m.up)
   where
     not_denied : Denied (Ok p) s → m.up ≡ true
     not_denied (inl x) = let e = x.1 in clash (cc)

@@ -26,8 +26,6 @@ pub struct Fickle<S> {
 impl<S: Pullable> Fickle<S> {
     // The server as it is, before any loss.
     pub fn new(below: S, seed: u32, odds: Odds) -> Fickle<S>
-        requires { S.PageServer.order below }
-        ensures order { S.PageServer.order result.below }
         ensures below { result.below ≡ below }
         ensures losses { result.losses ≡ 0 }
         ensures draws { (result.draws.seed ≡ seed) × (result.odds ≡ odds) }
@@ -42,9 +40,7 @@ impl<S: Pullable> Fickle<S> {
 
     // Loses the page at the slot, if one is there: only a server that is up holds one, and what is down must stay as it is.
     fn suffer(&mut self, strike: Strike)
-        requires { S.PageServer.order self.old.below }
-        ensures order { S.PageServer.order self.new.below }
-        ensures strikes { Strikes S.PageServer.meaning S.PageServer.order S.PageServer.steps S.Pullable.falls strike self.old self.new }
+        ensures strikes { Strikes S.PageServer.meaning S.PageServer.steps S.Pullable.falls strike self.old self.new }
         ensures undrawn { Undrawn self.old self.new }
     {
         if self.losses == u32::MAX {
@@ -65,9 +61,7 @@ impl<S: Pullable> Fickle<S> {
 
     // What comes before a call on this slot, by the draws.
     fn befall(&mut self, slot: usize, length: usize)
-        requires { S.PageServer.order self.old.below }
-        ensures order { S.PageServer.order self.new.below }
-        ensures befalls { Befalls S.PageServer.meaning S.PageServer.order S.PageServer.steps S.Pullable.falls self.old length slot self.new }
+        ensures { Befalls S.PageServer.meaning S.PageServer.steps S.Pullable.falls self.old length slot self.new }
     {
         let size = self.size();
         if length != PAGE_SIZE || slot >= size {
@@ -83,9 +77,7 @@ impl<S: Pullable> Fickle<S> {
 impl<S: Pullable> PageServer for Fickle<S> {
     ghost meaning = { λ s. with_losses s.losses (S.PageServer.meaning s.below) };
 
-    ghost order = { λ s. S.PageServer.order s.below };
-
-    ghost steps = { Stepped S.PageServer.meaning S.PageServer.order S.PageServer.steps S.Pullable.falls };
+    ghost steps = { Stepped S.PageServer.meaning S.PageServer.steps S.Pullable.falls };
 
     ghost laws = { fickle_laws S.Pullable.falls S.PageServer.laws };
 

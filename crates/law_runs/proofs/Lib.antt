@@ -1,1 +1,2 @@
 pub mod ReadingBack
+pub mod Rebuilds

@@ -2,6 +2,7 @@
 #![tactic(auto)]
 
 mod reading_back;
+mod restoring;
 mod stories;
 
 use bank::{End, Pair};
@@ -9,19 +10,26 @@ use memory::Memory;
 use page::{PAGE_SIZE, Page};
 use pager::Pager;
 use reading_back::write_then_read;
-use stories::{Story, tell};
+use stories::{GROUPS, STORIES, Story, tell};
 
-// Three groups, of which two are spare.
-const MEMORY: usize = 3 * PAGE_SIZE;
+const SPARES: usize = 2;
 
-// A story over two data servers and a parity server.
-fn over_three(rt: &HostRuntime, story: Story) -> anyhow::Result<()> {
+const MEMORY: usize = GROUPS * PAGE_SIZE;
+
+// Two data servers and a parity server.
+type Three<'a> = Pair<Memory<'a>, Pair<Memory<'a>, Pair<Memory<'a>, End>>>;
+
+fn three<'a>(a: &'a mut [u8], b: &'a mut [u8], c: &'a mut [u8]) -> Three<'a> {
+    let rest = Pair(Memory::new(b, 0), Pair(Memory::new(c, 0), End));
+    Pair(Memory::new(a, 0), rest)
+}
+
+fn over_three(rt: &HostRuntime, story: Story<'_>) -> anyhow::Result<()> {
     let mut a = [0u8; MEMORY];
     let mut b = [0u8; MEMORY];
     let mut c = [0u8; MEMORY];
-    let rest = Pair(Memory::new(&mut b, 0), Pair(Memory::new(&mut c, 0), End));
-    let mut pager = Pager::new(Pair(Memory::new(&mut a, 0), rest));
-    let _capacity = pager.make(3, 2)?;
+    let mut pager = Pager::new(three(&mut a, &mut b, &mut c));
+    pager.make(GROUPS, SPARES)?;
     tell(rt, &mut pager, story)
 }
 
@@ -30,8 +38,7 @@ fn read_back(rt: &HostRuntime) -> anyhow::Result<()> {
     let mut a = [0u8; MEMORY];
     let mut b = [0u8; MEMORY];
     let mut c = [0u8; MEMORY];
-    let rest = Pair(Memory::new(&mut b, 0), Pair(Memory::new(&mut c, 0), End));
-    let mut pager = Pager::new(Pair(Memory::new(&mut a, 0), rest));
+    let mut pager = Pager::new(three(&mut a, &mut b, &mut c));
     let mut buffer = [0u8; PAGE_SIZE];
     write_then_read(&mut pager, &Page::of_value(10).0, &mut buffer)?;
     let first = buffer[0];
@@ -41,8 +48,8 @@ fn read_back(rt: &HostRuntime) -> anyhow::Result<()> {
 
 fn main(rt: HostRuntime) -> anyhow::Result<()> {
     read_back(&rt)?;
-    over_three(&rt, Story::OneServerAndTwo)?;
-    over_three(&rt, Story::CleaningThatLoses)?;
-    over_three(&rt, Story::PageoutThatIsLost)?;
-    over_three(&rt, Story::RebuildBetweenPageouts)
+    for story in STORIES {
+        over_three(&rt, story)?;
+    }
+    Ok(())
 }

@@ -1,4 +1,3 @@
-ghost use Rattle.pager.specs.Order.{Ordered};
 ghost use Rattle.std.specs.Prelude.{◌≡◌, OnOk};
 
 use bank::Bank;
@@ -11,8 +10,6 @@ pub fn write_then_read<B: Bank>(
     bytes: &[u8],
     buffer: &mut [u8],
 ) -> Result<(), Fault>
-    requires { Ordered B.Bank.order B.Bank.count B.Bank.means pager.old }
-    ensures order { Ordered B.Bank.order B.Bank.count B.Bank.means pager.new }
     ensures same { OnOk result (buffer.new ≡ bytes.now) }
 {
     let _capacity = pager.make(3, 2)?;

@@ -1,236 +1,169 @@
-ghost use Rattle.pager.specs.Order.{Ordered};
-ghost use Rattle.std.specs.Prelude.{◌≡◌};
-
+use crate::restoring::restore;
 use bank::PullableBank;
 use page::{Fault, PAGE_SIZE, Page};
 use pager::Pager;
 use parity_log::Counts;
+use std::fmt;
 
+// How many groups the pager of a story has.
+pub const GROUPS: usize = 3;
+
+// Calls one after the other, and what they show.
 #[derive(Clone, Copy)]
-pub enum Story {
-    OneServerAndTwo,
-    CleaningThatLoses,
-    PageoutThatIsLost,
-    RebuildBetweenPageouts,
+pub struct Story<'a> {
+    title: &'a str,
+    acts: &'a [Act<'a>],
 }
 
-// One call of a story.
+pub const STORIES: [Story<'static>; 4] = [
+    Story {
+        title: "one server loses, and is rebuilt; then two do",
+        acts: &[
+            Act::Out(0, 10),
+            Act::Out(1, 20),
+            Act::Fall(0),
+            Act::In(0),
+            Act::Back(0),
+            Act::Rebuild(0, &[]),
+            Act::Fall(0),
+            Act::Fall(2),
+            Act::In(0),
+            Act::In(1),
+            Act::Back(0),
+            Act::Back(2),
+            Act::Rebuild(0, &[]),
+            Act::In(0),
+            Act::Out(0, 30),
+            Act::In(0),
+        ],
+    },
+    Story {
+        title: "a cleaning meets a page that it can't read",
+        acts: &[
+            Act::Out(0, 10),
+            Act::Out(1, 20),
+            Act::Out(0, 30),
+            Act::Out(0, 40),
+            Act::Fall(1),
+            Act::Fall(2),
+            Act::Out(0, 50),
+            Act::In(1),
+            Act::Back(1),
+            Act::Back(2),
+            Act::In(1),
+            Act::In(0),
+        ],
+    },
+    Story {
+        title: "a pageout is refused as lost",
+        acts: &[
+            Act::Out(0, 10),
+            Act::Fall(0),
+            Act::Fall(1),
+            Act::Out(1, 20),
+            Act::In(1),
+            Act::In(0),
+            Act::Back(0),
+            Act::In(0),
+        ],
+    },
+    Story {
+        title: "a rebuild with pageouts between its steps; then another server falls",
+        acts: &[
+            Act::Out(0, 10),
+            Act::Out(1, 20),
+            Act::Fall(1),
+            Act::Back(1),
+            Act::Rebuild(1, &[(0, 70), (1, 80)]),
+            Act::Fall(0),
+            Act::In(0),
+            Act::In(1),
+        ],
+    },
+];
+
+// One call of a story. A rebuild brings its server back first; it has the pageouts that come between its steps, each a page and a value.
 #[derive(Clone, Copy)]
-enum Act {
+enum Act<'a> {
     Out(usize, u8),
     In(usize),
     Fall(usize),
     Back(usize),
-    Rebuild(usize),
-    RebuildWithPageouts(usize),
+    Rebuild(usize, &'a [(usize, u8)]),
 }
 
-fn page_out<B: PullableBank>(pager: &mut Pager<B>, page: usize, value: u8) -> Result<(), Fault>
-    requires { Ordered B.Bank.order B.Bank.count B.Bank.means pager.old }
-    ensures { Ordered B.Bank.order B.Bank.count B.Bank.means pager.new }
-{
+impl fmt::Display for Act<'_> {
+    fn fmt<W: fmt::Write>(&self, f: &mut fmt::Formatter<W>) -> fmt::Result {
+        match *self {
+            Act::Out(page, _) => write!(f, "out {page}"),
+            Act::In(page) => write!(f, "in {page}"),
+            Act::Fall(server) => write!(f, "fall {server}"),
+            Act::Back(server) => write!(f, "back {server}"),
+            Act::Rebuild(server, _) => write!(f, "rebuild {server}"),
+        }
+    }
+}
+
+// What a call gave: nothing more, a page that begins with this byte, or what a rebuild came to.
+#[derive(Clone, Copy)]
+enum Given {
+    Done,
+    Page(u8),
+    Rebuilt(Counts),
+}
+
+impl fmt::Display for Given {
+    fn fmt<W: fmt::Write>(&self, f: &mut fmt::Formatter<W>) -> fmt::Result {
+        match *self {
+            Given::Done => write!(f, "done"),
+            Given::Page(first) => write!(f, "{first}"),
+            Given::Rebuilt(
+                Counts {
+                    rebuilt,
+                    failed,
+                    unvisited,
+                },
+            ) => write!(
+                f,
+                "{rebuilt} rebuilt, {failed} failed, {unvisited} unvisited"
+            ),
+        }
+    }
+}
+
+fn page_out<B: PullableBank>(pager: &mut Pager<B>, page: usize, value: u8) -> Result<(), Fault> {
     pager.pageout(page, &Page::of_value(value).0)
 }
 
-// A step for each of the three groups, with pageouts of both pages between them. No `?` stands between begin and close: the job would be let go.
-fn rebuild<B: PullableBank>(
-    pager: &mut Pager<B>,
-    server: usize,
-    pageouts: bool,
-) -> Result<Counts, Fault>
-    requires { Ordered B.Bank.order B.Bank.count B.Bank.means pager.old }
-    ensures { Ordered B.Bank.order B.Bank.count B.Bank.means pager.new }
-{
-    let job = pager.begin(server)?;
-    let (job, _) = pager.step(job);
-    let first = if pageouts {
-        page_out(pager, 0, 70)
-    } else {
-        Ok(())
-    };
-    let (job, _) = pager.step(job);
-    let second = if pageouts {
-        page_out(pager, 1, 80)
-    } else {
-        Ok(())
-    };
-    let (job, _) = pager.step(job);
-    let counts = job.close();
-    first?;
-    second?;
-    Ok(counts)
-}
-
-fn say(
-    rt: &HostRuntime,
-    what: &str,
-    number: usize,
-    answer: Result<(), Fault>,
-) -> anyhow::Result<()> {
-    match answer {
-        Ok(_) => println!(rt; "  {what} {number}: done")?,
-        Err(fault) => println!(rt; "  {what} {number}: {fault}")?,
-    }
-    Ok(())
-}
-
-fn say_in<B: PullableBank>(
-    rt: &HostRuntime,
-    pager: &mut Pager<B>,
-    page: usize,
-) -> anyhow::Result<()>
-    requires { Ordered B.Bank.order B.Bank.count B.Bank.means pager.old }
-    ensures { Ordered B.Bank.order B.Bank.count B.Bank.means pager.new }
-{
+fn page_in<B: PullableBank>(pager: &mut Pager<B>, page: usize) -> Result<u8, Fault> {
     let mut buffer = [0u8; PAGE_SIZE];
-    let answer = pager.pagein(page, &mut buffer);
-    let first = buffer[0];
-    match answer {
-        Ok(_) => println!(rt; "  in {page}: {first}")?,
-        Err(fault) => println!(rt; "  in {page}: {fault}")?,
-    }
-    Ok(())
+    pager.pagein(page, &mut buffer)?;
+    Ok(buffer[0])
 }
 
-fn say_rebuild(
-    rt: &HostRuntime,
-    server: usize,
-    answer: Result<Counts, Fault>,
-) -> anyhow::Result<()> {
-    match answer {
-        Ok(counts) => {
-            let Counts {
-                rebuilt,
-                failed,
-                unvisited,
-            } = counts;
-            println!(rt;
-                "  rebuild {server}: {rebuilt} rebuilt, {failed} failed, {unvisited} unvisited"
-            )?;
-        }
-        Err(fault) => println!(rt; "  rebuild {server}: {fault}")?,
-    }
-    Ok(())
-}
-
-fn carry_out<B: PullableBank>(
-    rt: &HostRuntime,
-    pager: &mut Pager<B>,
-    act: Act,
-) -> anyhow::Result<()>
-    requires { Ordered B.Bank.order B.Bank.count B.Bank.means pager.old }
-    ensures { Ordered B.Bank.order B.Bank.count B.Bank.means pager.new }
-{
+fn carry_out<B: PullableBank>(pager: &mut Pager<B>, act: Act<'_>) -> Result<Given, Fault> {
     match act {
-        Act::Out(page, value) => say(rt, "out", page, page_out(pager, page, value)),
-        Act::In(page) => say_in(rt, pager, page),
-        Act::Fall(server) => say(rt, "fall", server, pager.fall(server)),
-        Act::Back(server) => say(rt, "back", server, pager.back(server)),
-        Act::Rebuild(server) => say_rebuild(rt, server, rebuild(pager, server, false)),
-        Act::RebuildWithPageouts(server) => say_rebuild(rt, server, rebuild(pager, server, true)),
+        Act::Out(page, value) => page_out(pager, page, value).map(|()| Given::Done),
+        Act::In(page) => page_in(pager, page).map(Given::Page),
+        Act::Fall(server) => pager.fall(server).map(|()| Given::Done),
+        Act::Back(server) => pager.back(server).map(|()| Given::Done),
+        Act::Rebuild(server, pageouts) => restore(pager, server, GROUPS, pageouts).map(
+            Given::Rebuilt,
+        ),
     }
-}
-
-fn act_all<B: PullableBank>(
-    rt: &HostRuntime,
-    pager: &mut Pager<B>,
-    acts: &[Act],
-) -> anyhow::Result<()>
-    requires { Ordered B.Bank.order B.Bank.count B.Bank.means pager.old }
-{
-    for one in acts {
-        carry_out(rt, pager, *one)?;
-    }
-    Ok(())
 }
 
 pub fn tell<B: PullableBank>(
     rt: &HostRuntime,
     pager: &mut Pager<B>,
-    story: Story,
-) -> anyhow::Result<()>
-    requires { Ordered B.Bank.order B.Bank.count B.Bank.means pager.old }
-{
-    match story {
-        Story::OneServerAndTwo => {
-            println!(rt; "one server loses, and is rebuilt; then two do")?;
-            act_all(
-                rt,
-                pager,
-                &[
-                    Act::Out(0, 10),
-                    Act::Out(1, 20),
-                    Act::Fall(0),
-                    Act::In(0),
-                    Act::Back(0),
-                    Act::Rebuild(0),
-                    Act::Fall(0),
-                    Act::Fall(2),
-                    Act::In(0),
-                    Act::In(1),
-                    Act::Back(0),
-                    Act::Back(2),
-                    Act::Rebuild(0),
-                    Act::In(0),
-                    Act::Out(0, 30),
-                    Act::In(0),
-                ],
-            )
-        }
-        Story::CleaningThatLoses => {
-            println!(rt; "a cleaning meets a page that it can't read")?;
-            act_all(
-                rt,
-                pager,
-                &[
-                    Act::Out(0, 10),
-                    Act::Out(1, 20),
-                    Act::Out(0, 30),
-                    Act::Out(0, 40),
-                    Act::Fall(1),
-                    Act::Fall(2),
-                    Act::Out(0, 50),
-                    Act::In(1),
-                    Act::Back(1),
-                    Act::Back(2),
-                    Act::In(1),
-                    Act::In(0),
-                ],
-            )
-        }
-        Story::PageoutThatIsLost => {
-            println!(rt; "a pageout is refused as lost")?;
-            act_all(
-                rt,
-                pager,
-                &[
-                    Act::Out(0, 10),
-                    Act::Fall(0),
-                    Act::Fall(1),
-                    Act::Out(1, 20),
-                    Act::In(1),
-                    Act::In(0),
-                    Act::Back(0),
-                    Act::In(0),
-                ],
-            )
-        }
-        Story::RebuildBetweenPageouts => {
-            println!(rt; "a rebuild with pageouts between its steps; then another server falls")?;
-            act_all(
-                rt,
-                pager,
-                &[
-                    Act::Out(0, 10),
-                    Act::Out(1, 20),
-                    Act::Fall(1),
-                    Act::Back(1),
-                    Act::RebuildWithPageouts(1),
-                    Act::Fall(0),
-                    Act::In(0),
-                    Act::In(1),
-                ],
-            )
+    story: Story<'_>,
+) -> anyhow::Result<()> {
+    rt.println(story.title)?;
+    for act in story.acts {
+        match carry_out(pager, *act) {
+            Ok(given) => println!(rt; "  {act}: {given}")?,
+            Err(fault) => println!(rt; "  {act}: {fault}")?,
         }
     }
+    Ok(())
 }

@@ -1,9 +1,7 @@
-ghost use Rattle.memory.specs.Store.{Ordered, store_of};
-
-use crate::book::Tally;
+use crate::book::Book;
 use crate::runs::{Run, drive};
 use bank::{End, Pair};
-use fickle::{Fickle, Odds};
+use fickle::Fickle;
 use memory::Memory;
 use mirror::Mirror;
 use page::Fault;
@@ -12,43 +10,18 @@ use server::Pullable;
 // Eight slots.
 const MEMORY: usize = 4096;
 
-// A memory server that loses, by a sequence of its own.
-fn losing<'a>(bytes: &'a mut [u8], run: Run, server: u32) -> Fickle<Memory<'a>>
-    ensures { Ordered (store_of result.below) }
-{
-    Fickle::new(Memory::new(bytes, 0), seed_of(run, server), run.odds)
-}
+impl Run {
+    // A memory server that loses, by a sequence of its own.
+    fn losing(self, bytes: &mut [u8], server: u32) -> Fickle<Memory<'_>> {
+        Fickle::new(Memory::new(bytes, 0), self.seed_of(server), self.plan.odds)
+    }
 
-fn seed_of(run: Run, server: u32) -> u32 {
-    run.seed
-        .wrapping_mul(8)
-        .wrapping_add(server)
-        .wrapping_mul(2654435761)
-}
-
-// Three servers of any kinds; what is generic is proved once, however deep the kinds are.
-fn drive_three<P: Pullable + Drop, Q: Pullable + Drop, R: Pullable + Drop>(
-    p: P,
-    q: Q,
-    r: R,
-    run: Run,
-    tally: &mut Tally,
-) -> Result<(), Fault>
-    requires { (P.PageServer.order p) × ((Q.PageServer.order q) × (R.PageServer.order r)) }
-{
-    drive(Pair(p, Pair(q, Pair(r, End))), run, tally)
-}
-
-fn drive_five<
-    P: Pullable + Drop,
-    Q: Pullable + Drop,
-    R: Pullable + Drop,
-    S: Pullable + Drop,
-    T: Pullable + Drop,
->(p: P, q: Q, r: R, s: S, t: T, run: Run, tally: &mut Tally) -> Result<(), Fault>
-    requires { (P.PageServer.order p) × ((Q.PageServer.order q) × ((R.PageServer.order r) × ((S.PageServer.order s) × (T.PageServer.order t)))) }
-{
-    drive(Pair(p, Pair(q, Pair(r, Pair(s, Pair(t, End))))), run, tally)
+    fn seed_of(self, server: u32) -> u32 {
+        self.seed
+            .wrapping_mul(8)
+            .wrapping_add(server)
+            .wrapping_mul(2654435761)
+    }
 }
 
 // Three that lose after two of any kinds.
@@ -56,67 +29,53 @@ fn drive_three_more<P: Pullable + Drop, Q: Pullable + Drop>(
     p: P,
     q: Q,
     run: Run,
-    tally: &mut Tally,
-) -> Result<(), Fault>
-    requires { (P.PageServer.order p) × (Q.PageServer.order q) }
-{
+    book: &mut Book,
+) -> Result<(), Fault> {
     let mut c = [0u8; MEMORY];
     let mut d = [0u8; MEMORY];
     let mut e = [0u8; MEMORY];
-    drive_five(
-        p,
-        q,
-        losing(&mut c, run, 2),
-        losing(&mut d, run, 3),
-        losing(&mut e, run, 4),
-        run,
-        tally,
-    )
+    let rest = Pair(
+        run.losing(&mut c, 2),
+        Pair(run.losing(&mut d, 3), Pair(run.losing(&mut e, 4), End)),
+    );
+    drive(Pair(p, Pair(q, rest)), run, book)
 }
 
-pub fn over_three(run: Run, tally: &mut Tally) -> Result<(), Fault> {
+pub fn over_three(run: Run, book: &mut Book) -> Result<(), Fault> {
     let mut a = [0u8; MEMORY];
     let mut b = [0u8; MEMORY];
     let mut c = [0u8; MEMORY];
-    drive_three(
-        losing(&mut a, run, 0),
-        losing(&mut b, run, 1),
-        losing(&mut c, run, 2),
-        run,
-        tally,
-    )
+    let rest = Pair(run.losing(&mut b, 1), Pair(run.losing(&mut c, 2), End));
+    drive(Pair(run.losing(&mut a, 0), rest), run, book)
 }
 
-pub fn over_five(run: Run, tally: &mut Tally) -> Result<(), Fault> {
+pub fn over_five(run: Run, book: &mut Book) -> Result<(), Fault> {
     let mut a = [0u8; MEMORY];
     let mut b = [0u8; MEMORY];
-    drive_three_more(losing(&mut a, run, 0), losing(&mut b, run, 1), run, tally)
+    drive_three_more(run.losing(&mut a, 0), run.losing(&mut b, 1), run, book)
 }
 
 // One that loses, and four that keep all they get.
-pub fn over_one_losing(run: Run, tally: &mut Tally) -> Result<(), Fault> {
+pub fn over_one_losing(run: Run, book: &mut Book) -> Result<(), Fault> {
     let mut a = [0u8; MEMORY];
     let mut b = [0u8; MEMORY];
     let mut c = [0u8; MEMORY];
     let mut d = [0u8; MEMORY];
     let mut e = [0u8; MEMORY];
-    drive_five(
-        Memory::new(&mut a, 0),
-        losing(&mut b, run, 1),
+    let rest = Pair(
         Memory::new(&mut c, 0),
-        Memory::new(&mut d, 0),
-        Memory::new(&mut e, 0),
-        run,
-        tally,
-    )
+        Pair(Memory::new(&mut d, 0), Pair(Memory::new(&mut e, 0), End)),
+    );
+    let bank = Pair(Memory::new(&mut a, 0), Pair(run.losing(&mut b, 1), rest));
+    drive(bank, run, book)
 }
 
 // A mirror of two that lose, a server that loses twice over, and three that lose.
-pub fn over_mixed(run: Run, tally: &mut Tally) -> Result<(), Fault> {
+pub fn over_mixed(run: Run, book: &mut Book) -> Result<(), Fault> {
     let mut a = [0u8; MEMORY];
     let mut b = [0u8; MEMORY];
     let mut f = [0u8; MEMORY];
-    let mirror = Mirror::new(losing(&mut a, run, 0), losing(&mut b, run, 1));
-    let twice = Fickle::new(losing(&mut f, run, 5), seed_of(run, 6), run.odds);
-    drive_three_more(mirror, twice, run, tally)
+    let mirror = Mirror::new(run.losing(&mut a, 0), run.losing(&mut b, 1));
+    let twice = Fickle::new(run.losing(&mut f, 5), run.seed_of(6), run.plan.odds);
+    drive_three_more(mirror, twice, run, book)
 }

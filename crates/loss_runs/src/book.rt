@@ -1,47 +1,124 @@
 use page::{Fault, PAGE_SIZE, Page, Refusal};
-use parity_log::Counts;
+use parity_log::{Counts, MOST_GROUPS};
+use std::fmt;
+use std::num::Saturating;
 
 pub const PAGES: usize = 16;
 
 // What a page should be.
-#[derive(Clone, Copy)]
-pub enum Booked {
+#[derive(Clone, Copy, Default)]
+enum Booked {
+    #[default]
     Nothing,
     Value(u8),
     Lost,
 }
 
 // What the calls of all runs came to.
-#[derive(Clone, Copy)]
+#[derive(Clone, Copy, Default)]
 pub struct Tally {
-    pub outs: u32,
-    pub lost_outs: u32,
-    pub frees: u32,
-    pub equal: u32,
-    pub lost: u32,
-    pub none: u32,
-    pub rebuilt: u32,
-    pub failed: u32,
-    pub wrong: u32,
+    outs: Saturating<u32>,
+    lost_outs: Saturating<u32>,
+    frees: Saturating<u32>,
+    equal: Saturating<u32>,
+    lost: Saturating<u32>,
+    none: Saturating<u32>,
+    rebuilt: Saturating<u32>,
+    failed: Saturating<u32>,
+    wrong: Saturating<u32>,
 }
 
-impl Tally {
-    pub fn new() -> Tally {
-        Tally {
-            outs: 0,
-            lost_outs: 0,
-            frees: 0,
-            equal: 0,
-            lost: 0,
-            none: 0,
-            rebuilt: 0,
-            failed: 0,
-            wrong: 0,
+impl fmt::Display for Tally {
+    fn fmt<W: fmt::Write>(&self, f: &mut fmt::Formatter<W>) -> fmt::Result {
+        let Tally {
+            outs,
+            lost_outs,
+            frees,
+            equal,
+            lost,
+            none,
+            rebuilt,
+            failed,
+            wrong,
+        } = *self;
+        writeln!(f, "{outs} pageouts done, {lost_outs} lost, {frees} frees")?;
+        write!(
+            f,
+            "  pageins: {equal} as booked, {lost} lost, {none} of pages not out; "
+        )?;
+        write!(
+            f,
+            "groups: {rebuilt} rebuilt, {failed} failed; {wrong} wrong"
+        )
+    }
+}
+
+// One run's pages, and what the calls of this run and those before it came to.
+#[derive(Clone, Copy, Default)]
+pub struct Book {
+    pages: [Booked; PAGES],
+    tally: Tally,
+}
+
+impl Book {
+    pub fn tally(&self) -> Tally {
+        self.tally
+    }
+
+    // A run begins: no page is out.
+    pub fn open(&mut self) {
+        self.pages = Default::default();
+    }
+
+    fn at(&self, page: usize) -> Booked {
+        self.pages.get(page).copied().unwrap_or_default()
+    }
+
+    fn note(&mut self, page: usize, booked: Booked) {
+        if let Some(entry) = self.pages.get_mut(page) {
+            *entry = booked;
         }
     }
 
-    pub fn misled(&mut self) {
-        add_one(&mut self.wrong);
+    // A pageout of this value.
+    pub fn paged_out(&mut self, page: usize, value: u8, done: Result<(), Fault>) {
+        match done.map_err(|fault| fault.refusal) {
+            Ok(()) => {
+                self.note(page, Booked::Value(value));
+                self.tally.outs += 1;
+            }
+            Err(Refusal::Lost) => {
+                self.note(page, Booked::Lost);
+                self.tally.lost_outs += 1;
+            }
+            Err(_) => self.misled(),
+        }
+    }
+
+    // A pagein that delivered these bytes. A cleaning may have lost the page, which no answer told.
+    pub fn paged_in(&mut self, page: usize, delivered: Result<&[u8; PAGE_SIZE], Fault>) {
+        match (self.at(page), delivered.map_err(|fault| fault.refusal)) {
+            (Booked::Value(value), Ok(bytes)) if Page::of_value(value).0 == *bytes => {
+                self.tally.equal += 1
+            }
+            (Booked::Value(_), Err(Refusal::Lost)) => {
+                self.note(page, Booked::Lost);
+                self.tally.lost += 1;
+            }
+            (Booked::Lost, Err(Refusal::Lost)) => self.tally.lost += 1,
+            (Booked::Nothing, Err(Refusal::None)) => self.tally.none += 1,
+            _ => self.misled(),
+        }
+    }
+
+    pub fn freed(&mut self, page: usize, done: Result<(), Fault>) {
+        match done {
+            Ok(()) => {
+                self.note(page, Booked::Nothing);
+                self.tally.frees += 1;
+            }
+            Err(_) => self.misled(),
+        }
     }
 
     // A server that was made to fall or brought back: neither is refused here.
@@ -52,105 +129,19 @@ impl Tally {
     }
 
     // A rebuild that went to the last group leaves none unvisited.
-    pub fn rebuilt(&mut self, counts: Counts) {
+    pub fn rebuilt(&mut self, done: Result<Counts, Fault>) {
+        let Ok(counts) = done else {
+            return self.misled();
+        };
         if counts.unvisited != 0 {
             self.misled();
         }
-        self.rebuilt = self.rebuilt.saturating_add(counts.rebuilt.min(32) as u32);
-        self.failed = self.failed.saturating_add(counts.failed.min(32) as u32);
-    }
-}
-
-// One run's pages.
-#[derive(Clone, Copy)]
-pub struct Book {
-    pages: [Booked; PAGES],
-}
-
-fn add_one(count: &mut u32) {
-    *count = count.saturating_add(1);
-}
-
-fn same(a: &[u8; PAGE_SIZE], b: &[u8; PAGE_SIZE]) -> bool {
-    for (j, byte) in a.iter().enumerate() {
-        if *byte != b[j] {
-            return false;
-        }
-    }
-    true
-}
-
-impl Book {
-    pub fn new() -> Book {
-        Book {
-            pages: [Booked::Nothing; PAGES],
-        }
+        let tally = &mut self.tally;
+        tally.rebuilt += counts.rebuilt.min(MOST_GROUPS) as u32;
+        tally.failed += counts.failed.min(MOST_GROUPS) as u32;
     }
 
-    fn at(&self, page: usize) -> Booked {
-        if page < PAGES {
-            self.pages[page]
-        } else {
-            Booked::Nothing
-        }
-    }
-
-    fn note(&mut self, page: usize, booked: Booked) {
-        if page < PAGES {
-            self.pages[page] = booked;
-        }
-    }
-
-    // A pageout of this value, done or refused.
-    pub fn paged_out(
-        &mut self,
-        page: usize,
-        value: u8,
-        refusal: Option<Refusal>,
-        tally: &mut Tally,
-    ) {
-        match refusal {
-            None => {
-                self.note(page, Booked::Value(value));
-                add_one(&mut tally.outs);
-            }
-            Some(Refusal::Lost) => {
-                self.note(page, Booked::Lost);
-                add_one(&mut tally.lost_outs);
-            }
-            Some(_) => add_one(&mut tally.wrong),
-        }
-    }
-
-    // A pagein that left this in the buffer. A cleaning may have lost the page, which no answer told.
-    pub fn paged_in(
-        &mut self,
-        page: usize,
-        bytes: &[u8; PAGE_SIZE],
-        refusal: Option<Refusal>,
-        tally: &mut Tally,
-    ) {
-        match (self.at(page), refusal) {
-            (Booked::Value(value), None) if same(&Page::of_value(value).0, bytes) => {
-                add_one(&mut tally.equal)
-            }
-            (Booked::Value(_), Some(Refusal::Lost)) => {
-                self.note(page, Booked::Lost);
-                add_one(&mut tally.lost);
-            }
-            (Booked::Lost, Some(Refusal::Lost)) => add_one(&mut tally.lost),
-            (Booked::Nothing, Some(Refusal::None)) => add_one(&mut tally.none),
-            _ => add_one(&mut tally.wrong),
-        }
-    }
-
-    pub fn freed(&mut self, page: usize, refusal: Option<Refusal>, tally: &mut Tally) {
-        match refusal {
-            None => {
-                self.note(page, Booked::Nothing);
-                add_one(&mut tally.frees);
-            }
-            Some(_) => add_one(&mut tally.wrong),
-        }
+    fn misled(&mut self) {
+        self.tally.wrong += 1;
     }
 }

@@ -6,10 +6,11 @@ mod book;
 mod runs;
 
 use banks::{over_five, over_mixed, over_one_losing, over_three};
-use book::Tally;
+use book::{Book, Tally};
 use fickle::Odds;
 use page::Fault;
-use runs::{Pulled, Run};
+use runs::{Plan, Pulled, Run};
+use std::fmt;
 
 const SEEDS: u32 = 300;
 
@@ -17,68 +18,51 @@ fn main(rt: HostRuntime) -> anyhow::Result<()> {
     run(&rt)
 }
 
+// What the runs over servers of these kinds came to.
 #[derive(Clone, Copy)]
-enum Servers {
-    Three,
-    Five,
-    Mixed,
-    OneLosing,
+struct Report<'a> {
+    servers: &'a str,
+    plan: Plan,
+    tally: Tally,
 }
 
-impl Servers {
-    fn words(self) -> &'static str {
-        match self {
-            Servers::Three => "three memory servers, ",
-            Servers::Five => "five memory servers, ",
-            Servers::Mixed => "a mirror and four memory servers, ",
-            Servers::OneLosing => "one that loses and four that do not, ",
-        }
+impl fmt::Display for Report<'_> {
+    fn fmt<W: fmt::Write>(&self, f: &mut fmt::Formatter<W>) -> fmt::Result {
+        let Report { servers, tally, .. } = *self;
+        let Plan { groups, spares, .. } = self.plan;
+        write!(f, "{servers}, G {groups}, q {spares}: {tally}")
     }
 }
 
-// The same run over every seed.
-fn over_seeds(servers: Servers, mut run: Run) -> Result<Tally, Fault> {
-    let mut tally = Tally::new();
+// The same plan over every seed.
+fn over_seeds<F: Fn(Run, &mut Book) -> Result<(), Fault>>(
+    over: F,
+    plan: Plan,
+) -> Result<Tally, Fault>
+    requires { F.IsAlwaysCallable over }
+{
+    let mut book = Book::default();
     for seed in 0..SEEDS {
-        run.seed = seed;
-        match servers {
-            Servers::Three => over_three(run, &mut tally)?,
-            Servers::Five => over_five(run, &mut tally)?,
-            Servers::Mixed => over_mixed(run, &mut tally)?,
-            Servers::OneLosing => over_one_losing(run, &mut tally)?,
-        }
+        over(Run { plan, seed }, &mut book)?;
     }
-    Ok(tally)
+    Ok(book.tally())
 }
 
-fn show_calls(rt: &HostRuntime, run: Run, tally: Tally) -> anyhow::Result<()> {
-    let groups = run.groups;
-    let spares = run.spares;
-    let outs = tally.outs;
-    let lost = tally.lost_outs;
-    let frees = tally.frees;
-    println!(rt; "G {groups}, q {spares}: {outs} pageouts done, {lost} lost, {frees} frees")?;
+fn show<F: Fn(Run, &mut Book) -> Result<(), Fault>>(
+    rt: &HostRuntime,
+    servers: &str,
+    over: F,
+    plan: Plan,
+) -> anyhow::Result<()>
+    requires { F.IsAlwaysCallable over }
+{
+    let tally = over_seeds(over, plan)?;
+    rt.println(Report {
+        servers,
+        plan,
+        tally,
+    })?;
     Ok(())
-}
-
-fn show_pageins(rt: &HostRuntime, tally: Tally) -> anyhow::Result<()> {
-    let equal = tally.equal;
-    let lost = tally.lost;
-    let none = tally.none;
-    let rebuilt = tally.rebuilt;
-    let failed = tally.failed;
-    let wrong = tally.wrong;
-    println!(rt;
-        "  pageins: {equal} as booked, {lost} lost, {none} of pages not out; groups: {rebuilt} rebuilt, {failed} failed; {wrong} wrong"
-    )?;
-    Ok(())
-}
-
-fn show(rt: &HostRuntime, servers: Servers, run: Run) -> anyhow::Result<()> {
-    let tally = over_seeds(servers, run)?;
-    rt.print(servers.words())?;
-    show_calls(rt, run, tally)?;
-    show_pageins(rt, tally)
 }
 
 fn run(rt: &HostRuntime) -> anyhow::Result<()> {
@@ -86,31 +70,35 @@ fn run(rt: &HostRuntime) -> anyhow::Result<()> {
         pages: 16,
         falls: 1,
     };
-    let six = Run {
+    let six = Plan {
         groups: 6,
         spares: 2,
         calls: 1000,
         odds: losing,
         pulled: Pulled::AnyOf(5),
-        seed: 0,
     };
-    show(rt, Servers::Five, six)?;
-    let eight = Run {
+    show(rt, "five memory servers", over_five, six)?;
+    let eight = Plan {
         groups: 8,
         spares: 4,
         ..six
     };
-    show(rt, Servers::Five, eight)?;
-    let three = Run {
+    show(rt, "five memory servers", over_five, eight)?;
+    let three = Plan {
         groups: 3,
         pulled: Pulled::AnyOf(3),
         ..six
     };
-    show(rt, Servers::Three, three)?;
-    show(rt, Servers::Mixed, six)?;
-    let one = Run {
+    show(rt, "three memory servers", over_three, three)?;
+    show(rt, "a mirror and four memory servers", over_mixed, six)?;
+    let one = Plan {
         pulled: Pulled::Only(1),
         ..six
     };
-    show(rt, Servers::OneLosing, one)
+    show(
+        rt,
+        "one that loses and four that do not",
+        over_one_losing,
+        one,
+    )
 }

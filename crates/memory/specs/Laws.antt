@@ -1,7 +1,7 @@
 -- The memory server's rule is one of a page server.
 use Rattle.std.specs.Prelude.{◌≡◌, ℕ, zero, suc, ◌+◌, ◌-◌, ◌*◌, ◌/◌, ◌<◌, ◌≤◌, min, Bool, true, false, cond, ◌≢◌, List, length, get_or, take, drop, replicate, Ok, ◌==◌, nat_lt, slice_index_or, slice_set, refl}
-use Rattle.std.proofs.Common.{sym, ap, subst, ◌∙◌, inl, inr, arith, length-set, length-append, length-take, length-drop, get_or-set_same, get_or-set_other, eq-eqb, ne_eqb, lt-ltb, le-ltb, ltb-true, ltb-false, eqb-true}
-use Rattle.std.proofs.lemmas.Bool.{eqb-false}
+use Rattle.std.proofs.Common.{sym, ap, ◌∙◌, inl, inr, ⊎_elim, arith, length-set, length-append, length-take, length-drop, get_or-set_same, get_or-set_other, eq-eqb, ne_eqb, lt-ltb, le-ltb, ltb-true, eqb-true}
+use Rattle.std.proofs.lemmas.Bool.{eqb-false, both_ways, cases_order, cond_both, false_from_ne_true}
 use Rattle.std.proofs.lemmas.Slice.{between-put_mid, between_is, take-put_mid_below, drop-put_mid}
 use Rattle.page.specs.declared.faults.Layer.TheVariants.{Server}
 use Rattle.server.specs.Meaning.{nothing, holds, Sound, Empty}
@@ -33,41 +33,25 @@ module _ (b : List ℕ) (s : ℕ) (p : List ℕ) (l : length p ≡ 512) (h : 512
   slot_above k lt = ap (take 512) (drop-put_mid (512 * s) (length p) b p (512 * k) (omega arith) (omega arith) refl)
 
   other_slot : (k : ℕ) → (k ≢ s) → page_at (written b s p) k ≡ page_at b k
-  other_slot k ne = go (nat_lt k s) refl
-    where
-      go : (v : Bool) → nat_lt k s ≡ v → page_at (written b s p) k ≡ page_at b k
-      go true e = slot_below k (ltb-true k s e)
-      go false e = let g = ltb-false k s e in let n : k ≢ s = ne in slot_above k (omega arith)
+  other_slot k ne = ⊎_elim (λ e. absurd (ne e)) (λ o. ⊎_elim (slot_below k) (slot_above k) o) (cases_order k s)
 
   as_long : length (written b s p) ≡ length b
   as_long = simp (length-append, length-take, length-drop) (omega arith)
 
-clash : {A : Type 0} (b : Bool) → b ≡ true → b ≡ false → A
-clash true p q = absurd (subst (λ (v : Bool). cond v (Unit {0}) ⊥) q tt)
-clash false p q = absurd (subst (λ (v : Bool). cond v ⊥ (Unit {0})) p tt)
-
 -- a flag that is not set
 unset : (x : Store) (k : ℕ) → (slice_index_or x.flags k false ≢ true) → held_at x k ≡ nothing
-unset x k not_set = go (slice_index_or x.flags k false) refl
-  where
-    go : (v : Bool) → slice_index_or x.flags k false ≡ v → held_at x k ≡ nothing
-    go true e = absurd (not_set e)
-    go false e = rw e
+unset x k not_set = rw (false_from_ne_true (slice_index_or x.flags k false) not_set)
 
 sound : (x : Store) → Ordered x → Sound (meant x)
 sound x o = record {
-  down = λ e k. unset x k (λ f. clash x.up (o.set k f).1 e);
+  down = λ e k. unset x k (λ f. both_ways x.up e (o.set k f).1);
   past = λ k h. unset x k (λ f. let q = (o.set k f).0 in omega arith);
 }
-
-both : {X : Type 0} (P : X → Type 0) (b : Bool) (u v : X) → (b ≡ true → P u) → P v → P (cond b u v)
-both P true u v f g = f refl
-both P false u v f g = g
 
 -- what holds of a server before a call and of what the call makes of it holds after
 reaching : (P : Store → Type 0) (x : Store) (n s : ℕ) (y : Store) → P x → (n ≡ 512 → s < slots x → x.up ≡ true → P y) → P (reaches x n s y)
 reaching P x n s y g f =
-    both P (n == 512) _ x (λ e. both P (nat_lt s (slots x)) _ x (λ i. both P x.up _ x (λ u. f (eqb-true n 512 e) (ltb-true s (slots x) i) u) g) g) g
+    cond_both (n == 512) _ x P (λ e. cond_both (nat_lt s (slots x)) _ x P (λ i. cond_both x.up _ x P (λ u. f (eqb-true n 512 e) (ltb-true s (slots x) i) u) (λ _. g)) (λ _. g)) (λ _. g)
 
 put_step : (x : Store) (s : ℕ) (p : List ℕ) → Ordered x → Step (meant x) (to_put s p) (says x (to_put s p)) (meant (after x (to_put s p)))
 put_step x s p o = record {
@@ -128,17 +112,17 @@ flagged_order x bytes s flag l i u o = record {
     which k f true e = rw (eqb-true k s e) i
     which k f false e = let ne : k ≢ s = eqb-false k s e in (o.set k (rw get_or-set_other at f)).0
 
-rule_order : (x : Store) (c : Call) → Ordered x → Ordered (after x c)
+-- the rule keeps the order of a server, by whatever code it is followed
+pub rule_order : (x : Store) (c : Call) → Ordered x → Ordered (after x c)
 rule_order x (to_put s p) o = reaching Ordered x (length p) s _ o (λ l i u. flagged_order x (written x.bytes s p) s true (as_long x.bytes s p l (within x s i)) i u o)
 rule_order x (to_get s n) o = o
 rule_order x (to_free s) o = reaching Ordered x 512 s _ o (λ l i u. flagged_order x x.bytes s false refl i u o)
 
 -- S is the server in the code, and n the lender of its bytes
-pub memory_laws : {S N : Type 0} (f : S → Store) (n : S → N) → Lawful (λ s. meant (f s)) (λ s. Ordered (f s)) (λ s c a t. Stepped (f s) c a (f t) × (n t ≡ n s))
-memory_laws f n = record {
-  sound = λ s. sound (f s);
-  stays = λ s c a t o r. subst Ordered (sym r.0.leaves) (rule_order (f s) c o);
-  meets = λ s c a t o r. rw (r.0.says, r.0.leaves) (rule_steps (f s) c o);
+pub memory_laws : {S N : Type 0} (f : S → Store) (n : S → N) → ((s : S) → Ordered (f s)) → Lawful (λ s. meant (f s)) (λ s c a t. Stepped (f s) c a (f t) × (n t ≡ n s))
+memory_laws f n o = record {
+  sound = λ s. sound (f s) (o s);
+  meets = λ s c a t r. rw (r.0.says, r.0.leaves) (rule_steps (f s) c (o s));
 }
 
 none_set : (n k : ℕ) → slice_index_or (replicate n false) k false ≡ false
@@ -146,23 +130,26 @@ none_set zero k = refl
 none_set (suc n) zero = refl
 none_set (suc n) (suc k) = none_set n k
 
+none_set_in : (x : Store) → x.flags ≡ no_flags → (k : ℕ) → (slice_index_or x.flags k false ≢ true)
+none_set_in x e k f = both_ways _ (none_set 64 k) (ap (λ (l : List Bool). get_or l k false) (sym e) ∙ f)
+
 -- a server with no flag set
 pub empty_order : (x : Store) → x.flags ≡ no_flags → (x.up ≡ true → x.era < last_era) → Ordered x
 empty_order x e h = record {
   flags = ap length e;
-  set = λ k f. clash (slice_index_or x.flags k false) f (ap (λ (l : List Bool). get_or l k false) e ∙ none_set 64 k);
+  set = λ k f. absurd (none_set_in x e k f);
   short = h;
 }
 
 pub empty_holds : (x : Store) → x.flags ≡ no_flags → Empty (meant x)
-empty_holds x e k = unset x k (λ f. clash (slice_index_or x.flags k false) f (ap (λ (l : List Bool). get_or l k false) e ∙ none_set 64 k))
+empty_holds x e k = unset x k (none_set_in x e k)
 
 pub fall_order : (x : Store) → Ordered x → Ordered (fallen x)
-fall_order x o = both Ordered x.up _ x (λ _. empty_order _ refl (λ u. clash false u refl)) o
+fall_order x o = cond_both x.up _ x Ordered (λ _. empty_order _ refl (λ u. absurd (both_ways false refl u))) (λ _. o)
 
 pub fall_meets : (x : Store) → Falls (meant x) (meant (fallen x))
 fall_meets x = record {
-  size = both (λ y. slots y ≡ slots x) x.up _ x (λ _. refl) refl;
+  size = cond_both x.up _ x (λ y. slots y ≡ slots x) (λ _. refl) (λ _. refl);
   down = λ d. simp d refl;
   up = λ u. simp u (refl, omega arith, empty_holds (empty x.bytes false (x.era + 1)) refl);
 }

@@ -1,7 +1,6 @@
--- What a mirror means, over what its two halves mean, and its good order.
+-- What a mirror means, over what its two halves mean, and what it needs between them.
 use Rattle.std.specs.Prelude.{◌≡◌, ℕ, ◌+◌, ◌≤◌, min, ◌||◌, List}
 use Rattle.server.specs.Meaning.{Held, nothing, holds, Meaning}
-use Rattle.mirror.specs.declared.Mirror.{Mirror}
 
 -- what the first half holds, or else what the second holds
 abbrev pub first_of : Held → Held → Held
@@ -18,16 +17,7 @@ Copies a b = (p q : List ℕ) → a ≡ holds p → b ≡ holds q → p ≡ q
 abbrev pub Agree : Meaning → Meaning → Type 0
 Agree m n = (k : ℕ) → Copies (m.held k) (n.held k)
 
--- both halves are in good order, their copies agree, and neither holds a page past the smaller one's end
-pub record Paired (firstOrder secondOrder : Type 0) (m n : Meaning) : Type 0 where
-  pub first : firstOrder
-  pub second : secondOrder
+-- the copies of the halves agree, and neither holds a page past the smaller one's end
+pub record Paired (m n : Meaning) : Type 0 where
   pub agree : Agree m n
   pub past : (k : ℕ) → (joined m n).size ≤ k → (joined m n).held k ≡ nothing
-
--- the mirror as it stands in the code
-abbrev pub means : {X Y : Type 0} → (X → Meaning) → (Y → Meaning) → Mirror X Y → Meaning
-means mx my s = joined (mx s.first) (my s.second)
-
-abbrev pub Ordered : {X Y : Type 0} → (X → Type 0) → (Y → Type 0) → (X → Meaning) → (Y → Meaning) → Mirror X Y → Type 0
-Ordered ox oy mx my s = Paired (ox s.first) (oy s.second) (mx s.first) (my s.second)

@@ -1,7 +1,7 @@
 -- What a call leaves of two halves, taken as one.
-use Rattle.std.specs.Prelude.{◌≡◌, ℕ, ◌≤◌, min, Bool, true, false, cond, ◌||◌, ◌⊎◌, List, Ok, Err, Result, ◌==◌, nat_eq, refl}
-use Rattle.std.proofs.Common.{sym, ap, ap₂, subst, ◌∙◌, inl, inr, ⊎_elim, arith, eqb-true}
-use Rattle.std.proofs.lemmas.Bool.{eqb-false}
+use Rattle.std.specs.Prelude.{◌≡◌, ℕ, ◌≤◌, min, Bool, true, false, cond, ◌||◌, ◌⊎◌, List, Ok, Err, Result, refl}
+use Rattle.std.proofs.Common.{sym, ap, ap₂, subst, ◌∙◌, inl, inr, ⊎_elim, arith}
+use Rattle.std.proofs.lemmas.Bool.{cases_Bool, cases_eq, or_parts}
 use Rattle.page.specs.declared.faults.Fault.{Fault}
 use Rattle.page.specs.declared.faults.Layer.TheVariants.{Mirror}
 use Rattle.page.specs.declared.faults.Refusal.TheVariants.{None, Gone}
@@ -9,13 +9,10 @@ use Rattle.page.specs.Refusals.{same_refusal}
 use Rattle.server.specs.Meaning.{Held, nothing, holds, Meaning, Sound, Empty, SameOrNothing}
 use Rattle.server.specs.Calls.{Call, to_put, to_get, to_free, slot_of, Answer, Denied}
 use Rattle.server.specs.Steps.{Fine, Raised, Others, Fewer, Step}
-use Rattle.mirror.specs.Joined.{first_of, joined, Copies, Agree}
+use Rattle.server.specs.Ways.{clash}
+use Rattle.mirror.specs.Joined.{first_of, joined, Copies, Agree, Paired}
 use Rattle.mirror.specs.Rule.{Reply, refusal, either_done_of, second_says}
-use Rattle.mirror.specs.Leaving.{true_or_false, clash, not_both, not_held, wanted, raised_down, raised_kept, emptied, Leaves}
-
-pub or_false : (a b : Bool) → (a || b) ≡ false → (a ≡ false) × (b ≡ false)
-or_false true b e = not_both true refl e
-or_false false b e = (refl, e)
+use Rattle.mirror.specs.Leaving.{not_held, wanted, raised_down, raised_kept, emptied, Leaves}
 
 pub or_true : (a b : Bool) → (a || b) ≡ true → (a ≡ true) ⊎ ((a ≡ false) × (b ≡ true))
 or_true true b e = inl refl
@@ -41,8 +38,11 @@ wanted_copies (to_put s r) a b same p q e f = cc
 wanted_copies (to_get s n) a b same p q e f = same p q e f
 wanted_copies (to_free s) a b same p q e f = not_held nothing p refl e
 
-pub joined_sound : (m n : Meaning) → Sound m → Sound n → (joined m n).up ≡ false → Empty (joined m n)
-joined_sound m n om on u k = let d = or_false m.up n.up u in ap₂ first_of (om.down d.0 k) (on.down d.1 k)
+joined_sound : (m n : Meaning) → Sound m → Sound n → (joined m n).up ≡ false → Empty (joined m n)
+joined_sound m n om on u k = let d = or_parts m.up n.up u in ap₂ first_of (om.down d.0 k) (on.down d.1 k)
+
+pub paired_sound : (m n : Meaning) → Sound m → Sound n → Paired m n → Sound (joined m n)
+paired_sound m n om on o = record { down = joined_sound m n om on; past = o.past }
 
 -- the named slot of both halves, where neither era rose
 both_done : {m n m' n' : Meaning} (c : Call) → Leaves m m' c → Leaves n n' c → Sound m → Sound n → m'.era ≡ m.era → n'.era ≡ n.era → (m.up || n.up) ≡ true → first_of (m'.held (slot_of c)) (n'.held (slot_of c)) ≡ wanted c (first_of (m.held (slot_of c)) (n.held (slot_of c)))
@@ -51,7 +51,7 @@ both_done {m} {n} {m'} {n'} (to_put s p) h i om on e f u =
 both_done {m} {n} {m'} {n'} (to_get s l) h i om on e f u = ap₂ first_of (read h e) (read i f)
   where
     read : {x y : Meaning} → Leaves x y (to_get s l) → y.era ≡ x.era → y.held s ≡ x.held s
-    read {x} {y} t g = ⊎_elim (λ v. t.done g v) (λ v. ap (λ (z : Meaning). z.held s) (t.down v)) (true_or_false x.up)
+    read {x} {y} t g = ⊎_elim (λ v. t.done g v) (λ v. ap (λ (z : Meaning). z.held s) (t.down v)) (cases_Bool x.up)
 both_done {m} {n} {m'} {n'} (to_free s) h i om on e f u = ap₂ first_of (emptied (m'.held s) h.named) (emptied (n'.held s) i.named)
 
 module _ {m n m' n' : Meaning} {c : Call} (h : Leaves m m' c) (i : Leaves n n' c) (om : Sound m) (on : Sound n) (ag : Agree m n) (fine : Fine (joined m n) c) where
@@ -68,10 +68,10 @@ module _ {m n m' n' : Meaning} {c : Call} (h : Leaves m m' c) (i : Leaves n n' c
       (ap₂ ◌||◌ x.0 y.0, λ k ne. ap₂ first_of (x.1 k ne) (y.1 k ne))
 
   pub joined_agree : Agree m' n'
-  joined_agree k = ⊎_elim named (λ f. let ne = eqb-false k (slot_of c) f in fewer_copies (m.held k) (n.held k) (m'.held k) (n'.held k) (ag k) (h.others k ne) (i.others k ne)) (true_or_false (k == slot_of c))
+  joined_agree k = ⊎_elim named (λ ne. fewer_copies (m.held k) (n.held k) (m'.held k) (n'.held k) (ag k) (h.others k ne) (i.others k ne)) (cases_eq k (slot_of c))
     where
-      named : nat_eq k (slot_of c) ≡ true → Copies (m'.held k) (n'.held k)
-      named e = subst (λ (j : ℕ). Copies (m'.held j) (n'.held j)) (sym (eqb-true k (slot_of c) e)) (fewer_copies (wanted c (m.held (slot_of c))) (wanted c (n.held (slot_of c))) (m'.held (slot_of c)) (n'.held (slot_of c)) (wanted_copies c (m.held (slot_of c)) (n.held (slot_of c)) (ag (slot_of c))) h.named i.named)
+      named : k ≡ slot_of c → Copies (m'.held k) (n'.held k)
+      named e = subst (λ (j : ℕ). Copies (m'.held j) (n'.held j)) (sym e) (fewer_copies (wanted c (m.held (slot_of c))) (wanted c (n.held (slot_of c))) (m'.held (slot_of c)) (n'.held (slot_of c)) (wanted_copies c (m.held (slot_of c)) (n.held (slot_of c)) (ag (slot_of c))) h.named i.named)
 
   pub joined_past : ((k : ℕ) → (joined m n).size ≤ k → (joined m n).held k ≡ nothing) → (k : ℕ) → (joined m' n').size ≤ k → (joined m' n').held k ≡ nothing
   joined_past past k l =
@@ -87,7 +87,7 @@ module _ {m n m' n' : Meaning} {c : Call} (h : Leaves m m' c) (i : Leaves n n' c
     long = λ bad. absurd (bad fine.0);
     past = λ _ q. let z : ⊥ = omega (arith, fine.1) in absurd z;
     down = λ _ u.
-        let d = or_false m.up n.up u in
+        let d = or_parts m.up n.up u in
         let e = ap₂ joined (h.down d.0) (i.down d.1) in
         let g = joined_sound m n om on u (slot_of c) in
         (raised_down c _ a _ g (ap (λ (x : Meaning). x.held (slot_of c)) e ∙ g) r, e);

@@ -1,43 +1,20 @@
 -- What a call leaves of one half, however the half is.
-use Rattle.std.specs.Prelude.{◌≡◌, ℕ, ◌<◌, ◌≤◌, Bool, true, false, ◌⊎◌, List, nat_lt, refl}
-use Rattle.std.proofs.Common.{sym, ap, subst, ◌∙◌, inl, inr, ⊎_elim, arith, ltb-true, ltb-false}
+use Rattle.std.specs.Prelude.{◌≡◌, ℕ, ◌≤◌, true, false, List, refl}
+use Rattle.std.proofs.Common.{sym, ap, subst, ◌∙◌, inl, inr, ⊎_elim, arith}
+use Rattle.std.proofs.lemmas.Bool.{both_ways, cases_Bool}
 use Rattle.server.specs.Meaning.{Held, nothing, holds, Meaning, Sound, SameOrNothing}
 use Rattle.server.specs.Calls.{Call, to_put, to_get, to_free, slot_of, Answer}
 use Rattle.server.specs.Steps.{Fine, Down, Gets, Kept, Raised, Others, Fewer, Step}
-
-pub true_or_false : (b : Bool) → (b ≡ true) ⊎ (b ≡ false)
-true_or_false true = inl refl
-true_or_false false = inr refl
-
-pub clash : {A : Type 0} → ◌≡◌ {A = ℕ} 0 1 → A
-clash z = let w : ⊥ = omega arith in absurd w
-
-pub not_both : {A : Type 0} (b : Bool) → b ≡ true → b ≡ false → A
-not_both b u d = clash (cc)
+use Rattle.server.specs.Ways.{clash, same_or_more, named_raised}
 
 pub not_held : {A : Type 0} (h : Held) (p : List ℕ) → h ≡ nothing → h ≡ holds p → A
 not_held h p e f = clash (cc)
-
-same_or_more : (a b : ℕ) → a ≤ b → (b ≡ a) ⊎ (a < b)
-same_or_more a b h =
-    ⊎_elim (λ e. inr (ltb-true a b e)) (λ e. let q = ltb-false a b e in inl (omega arith)) (true_or_false (nat_lt a b))
 
 -- what the named slot is to hold
 abbrev pub wanted : Call → Held → Held
 wanted (to_put s p) h = holds p
 wanted (to_get s n) h = h
 wanted (to_free s) h = nothing
-
-kept_raised : (c : Call) (h : Held) (a : Answer c) (k : Held) → Kept c h a k → Raised c h a k
-kept_raised (to_put s p) h a k r = inl r
-kept_raised (to_get s n) nothing a k r = inr r
-kept_raised (to_get s n) (holds p) a k r = inl (p, refl, r.0, r.1)
-kept_raised (to_free s) h a k r = r
-
-down_raised : (c : Call) (h : Held) (a : Answer c) (k : Held) → k ≡ nothing → Down c a → Raised c h a k
-down_raised (to_put s p) h a k e d = inr (d, e)
-down_raised (to_get s n) h a k e d = inr (d, e)
-down_raised (to_free s) h a k e d = (d, e)
 
 pub raised_down : (c : Call) (h : Held) (a : Answer c) (k : Held) → h ≡ nothing → k ≡ nothing → Raised c h a k → Down c a
 raised_down (to_put s p) h a k e f (inl r) = not_held k p f r.1
@@ -92,25 +69,17 @@ unasked m n s l e = subst (λ (x : Meaning). Leaves m x (to_get s l)) (sym e) (r
 })
 
 module _ (m n : Meaning) (c : Call) (a : Answer c) (sound : Sound m) (fine : Fine m c) (step : Step m c a n) where
-  -- the named slot of a half that is asked
-  pub slot_raised : Raised c (m.held (slot_of c)) a (n.held (slot_of c))
-  slot_raised =
-      ⊎_elim
-      (λ u. ⊎_elim (λ e. kept_raised c _ a _ (step.kept fine u e).2) (λ l. (step.raised fine u l).1) (same_or_more m.era n.era step.era))
-      (λ d. let r = step.down fine d in down_raised c _ a _ (ap (λ (x : Meaning). x.held (slot_of c)) r.1 ∙ sound.down d (slot_of c)) r.0)
-      (true_or_false m.up)
-
   pub asked : Leaves m n c
-  asked = ⊎_elim up (λ d. dead d (step.down fine d).1) (true_or_false m.up)
+  asked = ⊎_elim up (λ d. dead d (step.down fine d).1) (cases_Bool m.up)
     where
       dead : m.up ≡ false → n ≡ m → Leaves m n c
       dead d e = record {
         size = step.size;
         era = step.era;
         others = λ k _. inl (ap (λ (x : Meaning). x.held k) e);
-        named = raised_wanted c _ a _ slot_raised;
+        named = raised_wanted c _ a _ (named_raised c sound fine step);
         still = λ _. (ap (λ (x : Meaning). x.up) e, λ k _. ap (λ (x : Meaning). x.held k) e);
-        done = λ _ u. not_both m.up u d;
+        done = λ _ u. absurd (both_ways m.up d u);
         down = λ _. e;
       }
 
@@ -119,7 +88,7 @@ module _ (m n : Meaning) (c : Call) (a : Answer c) (sound : Sound m) (fine : Fin
         size = step.size;
         era = step.era;
         others = ⊎_elim (λ e k ne. inl ((step.kept fine u e).1 k ne)) (λ l. (step.raised fine u l).0) (same_or_more m.era n.era step.era);
-        named = raised_wanted c _ a _ slot_raised;
+        named = raised_wanted c _ a _ (named_raised c sound fine step);
         still = λ e. let r = step.kept fine u e in (r.0 ∙ sym u, r.1);
         done = λ e _. kept_wanted c _ a _ (step.kept fine u e).2;
         down = λ d. (step.down fine d).1;

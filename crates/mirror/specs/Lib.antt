@@ -1,5 +1,6 @@
 pub mod Joined
 pub mod Rule
+pub mod Stands
 pub mod Sweep
 pub mod Pulling
 pub mod Leaving

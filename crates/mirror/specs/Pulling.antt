@@ -11,14 +11,14 @@ use Rattle.mirror.specs.declared.Mirror.{Mirror}
 use Rattle.mirror.specs.declared.Half.{Half}
 use Rattle.mirror.specs.declared.Half.TheVariants.{First, Second}
 
-abbrev pub Fallen : {X Y : Type 0} → (X → X → Type 0) → (Y → Y → Type 0) → Mirror X Y → Mirror X Y → Type 0
+abbrev pub Fallen : {X Y : Type 0} {g h : _} → (X → X → Type 0) → (Y → Y → Type 0) → Mirror X Y g h → Mirror X Y g h → Type 0
 Fallen fx fy s t = fx s.first t.first × fy s.second t.second
 
 abbrev pub worn : Fault
 worn = fault_of InMirror Worn
 
 -- worn only if both halves refuse
-abbrev pub BroughtBack : {X Y : Type 0} → (X → Reply → X → Type 0) → (Y → Reply → Y → Type 0) → Mirror X Y → Reply → Mirror X Y → Type 0
+abbrev pub BroughtBack : {X Y : Type 0} {g h : _} → (X → Reply → X → Type 0) → (Y → Reply → Y → Type 0) → Mirror X Y g h → Reply → Mirror X Y g h → Type 0
 BroughtBack bx by s a t = (b : Reply) × (d : Reply) × bx s.first b t.first × by s.second d t.second × (a ≡ either_done_of worn b d)
 
 -- a half falls or is brought back, by its kind's own rule and as any server
@@ -29,7 +29,7 @@ abbrev pub CameBack : {X : Type 0} → (X → Meaning) → (X → Reply → X �
 CameBack mx bx a x t = bx x a t × Backs (mx x) a (mx t)
 
 -- the named half moves, and the other stays
-abbrev pub Moved : {X Y : Type 0} → Half → (X → X → Type 0) → (Y → Y → Type 0) → Mirror X Y → Mirror X Y → Type 0
+abbrev pub Moved : {X Y : Type 0} {g h : _} → Half → (X → X → Type 0) → (Y → Y → Type 0) → Mirror X Y g h → Mirror X Y g h → Type 0
 Moved First fx fy s t = fx s.first t.first × (t.second ≡ s.second)
 Moved Second fx fy s t = (t.first ≡ s.first) × fy s.second t.second
 

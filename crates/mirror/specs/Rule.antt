@@ -5,10 +5,7 @@ use Rattle.page.specs.declared.faults.Layer.TheVariants.{Mirror as InMirror}
 use Rattle.page.specs.declared.faults.Refusal.{Refusal}
 use Rattle.page.specs.declared.faults.Refusal.TheVariants.{Range, Length, None, Gone}
 use Rattle.page.specs.Refusals.{fault_of, on_slot, same_refusal}
-use Rattle.server.specs.Meaning.{Meaning}
 use Rattle.server.specs.Calls.{Call, to_put, to_get, to_free, slot_of, length_of, Answer}
-use Rattle.mirror.specs.Joined.{means}
-use Rattle.mirror.specs.declared.Mirror.{Mirror}
 
 abbrev pub Rule : Type 0 → Type 1
 Rule X = X → (c : Call) → Answer c → X → Type 0
@@ -55,6 +52,3 @@ pub record Steps {X Y : Type 0} (rx : Rule X) (ry : Rule Y) (size : ℕ) (x : X)
   pub long : (length_of c ≢ 512) → Unasked Length x y c a x' y'
   pub past : length_of c ≡ 512 → size ≤ slot_of c → Unasked Range x y c a x' y'
   pub fine : length_of c ≡ 512 → slot_of c < size → Asked rx ry x y c a x' y'
-
-abbrev pub Stepped : {X Y : Type 0} → (X → Meaning) → (Y → Meaning) → Rule X → Rule Y → Mirror X Y → (c : Call) → Answer c → Mirror X Y → Type 0
-Stepped mx my rx ry s c a t = Steps rx ry (means mx my s).size s.first s.second c a t.first t.second

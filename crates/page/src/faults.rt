@@ -18,13 +18,16 @@ pub enum Refusal {
     Unread = 9,
 }
 
-impl Refusal {
-    pub fn number(self) -> u8
-        ensures { result ≡ (named self).number }
-    {
-        self as u8
-    }
+// The number that a refusal goes by where only numbers can.
+impl From<Refusal> for u8 {
+    ghost from_gives = { λ x n. n ≡ (named x).number };
 
+    fn from(refusal: Refusal) -> u8 {
+        refusal as u8
+    }
+}
+
+impl Refusal {
     pub fn word(self) -> &'static str
         ensures { result.now ≡ (named self).word }
     {
@@ -46,8 +49,7 @@ impl fmt::Display for Refusal {
     ghost output = { λ x. Some (named x).word };
 
     fn fmt<W: fmt::Write>(&self, f: &mut fmt::Formatter<W>) -> fmt::Result {
-        let word = self.word();
-        write!(f, "{word}")
+        f.write_str(self.word())
     }
 }
 
@@ -77,8 +79,7 @@ impl fmt::Display for Layer {
     ghost output = { λ x. Some (layer_word x) };
 
     fn fmt<W: fmt::Write>(&self, f: &mut fmt::Formatter<W>) -> fmt::Result {
-        let word = self.word();
-        write!(f, "{word}")
+        f.write_str(self.word())
     }
 }
 
@@ -155,15 +156,15 @@ impl Fault {
     pub fn is(&self, refusal: Refusal) -> bool
         ensures { result ≡ same_refusal self.now.refusal refusal }
     {
-        self.refusal.number() == refusal.number()
+        self.refusal == refusal
     }
 }
 
 // One place, where it is known.
-fn write_place<W: fmt::Write>(
+fn write_place<W: fmt::Write, T: fmt::Display + Drop>(
     f: &mut fmt::Formatter<W>,
     name: &str,
-    place: Option<usize>,
+    place: Option<T>,
 ) -> fmt::Result {
     match place {
         Some(n) => write!(f, ", {name} {n}"),
@@ -173,15 +174,12 @@ fn write_place<W: fmt::Write>(
 
 impl fmt::Display for Fault {
     fn fmt<W: fmt::Write>(&self, f: &mut fmt::Formatter<W>) -> fmt::Result {
-        let layer = self.layer.word();
-        let word = self.refusal.word();
-        write!(f, "{layer}: {word}")?;
+        let Fault { refusal, layer, .. } = *self;
+        write!(f, "{layer}: {refusal}")?;
         write_place(f, "slot", self.slot)?;
         write_place(f, "page", self.page)?;
         write_place(f, "group", self.group)?;
-        if let Some(set) = self.missing {
-            write!(f, ", missing {set}")?;
-        }
+        write_place(f, "missing", self.missing)?;
         write_place(f, "line", self.line)
     }
 }

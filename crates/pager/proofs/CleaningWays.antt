@@ -3,15 +3,14 @@ use Rattle.std.proofs.Common.{◌≡◌, ℕ, ◌+◌, ◌-◌, ◌<◌, ◌≤�
 use Rattle.std.specs.List.{range_with_len}
 use Rattle.bank.specs.Rows.{RowRule}
 use Rattle.parity_log.specs.declared.records.Tables.{Tables}
-use Rattle.parity_log.specs.declared.ledger.Ledger.{Ledger}
 use Rattle.parity_log.specs.declared.records.PageState.TheVariants.{Out, Lost}
 use Rattle.parity_log.specs.Rule.{give, Ends}
 use Rattle.parity_log.specs.declared.records.GroupState.{GroupState}
 use Rattle.parity_log.specs.declared.records.GroupState.TheVariants.{Free, Open, Closed}
 use Rattle.parity_log.specs.Tables.{with_page, page_at, state_of, is_open}
 use Rattle.parity_log.specs.Choices.{when_open, open_group, next_free, free_count, fewest_live}
-use Rattle.parity_log.specs.Order.{Cleaning, Sound, Settled}
-use Rattle.parity_log.specs.Owners.{Linked, Changes}
+use Rattle.parity_log.specs.Order.{Cleaning, Limited, Sound, Settled}
+use Rattle.parity_log.specs.Owners.{Changes}
 use Rattle.parity_log.specs.Reading.{LogRule, read, found, missed}
 use Rattle.parity_log.specs.Paging.{place, moved, move, move_all, clean, release, opened, open_next_rule, with_open, Ready, ready}
 use Rattle.parity_log.proofs.Bounds.{shape_bounds}
@@ -19,13 +18,8 @@ use Rattle.parity_log.proofs.ChangesLaws.{changes_place, changes_lose}
 use Rattle.parity_log.proofs.CleaningLaws.{clean_group, clean_page}
 use Rattle.parity_log.proofs.OpeningLaws.{open_last}
 use Rattle.parity_log.proofs.RuleLaws.{Leads, leads_bind, leads_give, ends_bind, ends_give, ends_note}
-use Rattle.pager.specs.Reads.{Limited}
 use Rattle.pager.specs.Places.{placed_as}
 use Rattle.pager.proofs.AskingLaws.{span_more, span_none}
-
--- what the numbers of sound tables are bounded by
-pub sound_limits : (v : Tables) → Sound v → Limited v
-sound_limits v s = record { servers = (shape_bounds v.shape s.shape).5; filled = s.filled }
 
 module _ {B : Type 0} (steps : RowRule B) (v : Tables) (g c i : ℕ) (o : Option ℕ) (b e : B) where
   pub nobody_moves : o ≡ None → Ends steps (move v g c i o) b v b
@@ -44,15 +38,15 @@ module _ {B : Type 0} (steps : RowRule B) (v : Tables) (g c i : ℕ) (o : Option
 pub clean_places : (v : Tables) (g c i : ℕ) → Cleaning v g c i → i < v.shape.servers → (c < 32) × (i < 8)
 clean_places v g c i h l = let s = shape_bounds v.shape h.sound.shape in let n = clean_group v g c i h in (omega (arith, s.1, n.0), omega (arith, s.5))
 
-module _ (l : Ledger) (g c i p : ℕ) (linked : Linked l) (h : Cleaning l.tables g c i) (lt : i < l.tables.shape.servers) (at : page_at l.tables.pages c i ≡ Some p) where
-  pub place_fits : (l.tables.filled < 8) × Changes l p (Out g l.tables.filled)
+module _ (v : Tables) (g c i p : ℕ) (h : Cleaning v g c i) (lt : i < v.shape.servers) (at : page_at v.pages c i ≡ Some p) where
+  pub place_fits : (v.filled < v.shape.servers) × Changes v p (Out g v.filled)
   place_fits =
-      let s = shape_bounds l.tables.shape h.sound.shape in
-      let q = clean_page l.tables g c i p h lt at in
-      (omega (arith, s.5, q.2), changes_place l g p h.sound linked h.open_now (omega (arith, q.2)) q.0)
+      let q = clean_page v g c i p h lt at in
+      let room : v.filled < v.shape.servers = omega (arith, q.2) in
+      (room, changes_place v g p h.sound h.open_now room q.0)
 
-  pub lose_fits : (m : ℕ) → Changes l p (Lost c m)
-  lose_fits m = changes_lose l p c m h.sound linked (clean_page l.tables g c i p h lt at).0
+  pub lose_fits : (m : ℕ) → Changes v p (Lost c m)
+  lose_fits m = changes_lose v p c m h.sound (clean_page v g c i p h lt at).0
 
 -- the moving begins with all positions
 pub move_begins : {B : Type 0} (steps : RowRule B) (b : B) (g c n : ℕ) (v : Tables) → Leads steps (move_all (range_with_len 0 n) g c v) b (move_all (range_with_len 0 (n - 0)) g c v) b

@@ -1,16 +1,16 @@
 -- What is asked of a bank leaves the shape that it fits; and a run of a rule keeps the pager's order.
-use Rattle.std.proofs.Common.{◌≡◌, ℕ, ◌≤◌, true, List, Result, sym, refl, ap, ◌∙◌, subst, ⊎_elim}
+use Rattle.std.proofs.Common.{◌≡◌, ℕ, ◌≤◌, true, List, Result, sym, ap, ◌∙◌, subst, ⊎_elim}
 use Rattle.std.proofs.lemmas.Bool.{cases_eq, cases_lt}
 use Rattle.page.specs.declared.faults.Fault.{Fault}
 use Rattle.server.specs.Calls.{Call, Answer}
 use Rattle.server.specs.Meaning.{Meaning}
 use Rattle.bank.specs.Rows.{RowRule, StepBy, Reaches, Rowed}
+use Rattle.parity_log.specs.declared.ledger.Ledger.{Ledger}
 use Rattle.parity_log.specs.declared.records.Shape.{Shape}
 use Rattle.parity_log.specs.Order.{Order}
-use Rattle.parity_log.specs.Owners.{Linked}
 use Rattle.parity_log.specs.Rule.{Rule, give, ask, note, Runs, Ends}
 use Rattle.parity_log.specs.Tables.{within}
-use Rattle.pager.specs.declared.Pager.{Pager}
+use Rattle.pager.specs.declared.log.Log.{Log}
 use Rattle.pager.specs.Order.{Fitted, Ordered}
 
 -- something was asked of server k, by a rule that keeps a server's size
@@ -28,39 +28,34 @@ module _ {B T : Type 0} (count : B → ℕ) (means : B → ℕ → Meaning) (rul
     reached_fitted : (s : Shape) → Fitted count means s b → Fitted count means s t
     reached_fitted s f = record { servers = moved.keeps ∙ f.servers; sizes = λ j l. subst (λ (n : ℕ). s.groups ≤ n) (sym (same_size j)) (f.sizes j l) }
 
-  pub reached_ordered : (order : B → Type 0) (p : Pager B) (t : B) → Reaches rule (count p.bank) (means p.bank) k a (count t) (means t) → order t → Ordered order count means p → Ordered order count means (record { bank = t; ledger = p.ledger })
-  reached_ordered order p t moved o h = record { bank = o; tables = h.tables; linked = h.linked; fitted = λ w. reached_fitted p.bank t moved p.ledger.tables.shape (h.fitted w) }
-
-module _ {B : Type 0} (count : B → ℕ) (means : B → ℕ → Meaning) (order : B → Type 0) (steps : RowRule B) (laws : Rowed count means order steps) where
-  call_reaches : (b : B) (i : ℕ) (c : Call) (a : Answer c) (t : B) → order b → steps b i c a t → Reaches (StepBy c) (count b) (means b) i a (count t) (means t)
-  call_reaches b i c a t o st = record {
-    here = laws.meets b i c a t o st;
-    past = λ past. let same = laws.past b i c a t o st past in (same.0, λ j. ap (λ (d : B). means d j) same.1);
-    others = laws.others b i c a t o st;
-    keeps = laws.keeps b i c a t o st;
+  pub reached_ordered : (p q : Log B) → q.ledger ≡ p.ledger → Reaches rule (count p.bank) (means p.bank) k a (count q.bank) (means q.bank) → Ordered count means p → Ordered count means q
+  reached_ordered p q same moved h = record {
+    tables = subst (λ (l : Ledger). Order l.tables) (sym same) h.tables;
+    fitted = subst (λ (l : Ledger). within l.tables.shape ≡ true → Fitted count means l.tables.shape q.bank) (sym same) (λ w. reached_fitted p.bank q.bank moved p.ledger.tables.shape (h.fitted w));
   }
 
-  runs_fitted : {N A : Type 0} (s : Shape) (rule : Rule N A) (b e : B) (ns : List (N × B)) (r : A) → order b → Runs steps rule b ns r e → order e × (Fitted count means s b → Fitted count means s e)
-  runs_fitted s (give a) b e ns r o h = (subst order (sym h.2) o, λ f. subst (Fitted count means s) (sym h.2) f)
-  runs_fitted s (ask i c k) b e ns r o h =
-      let o' = laws.stays b i c h.0 h.1 o h.2 in
-      let rest = runs_fitted s (k h.0) h.1 e ns r o' h.3 in
-      (rest.0, λ f. rest.1 (reached_fitted count means (StepBy c) i h.0 (λ m n st. st.size) b h.1 (call_reaches b i c h.0 h.1 o h.2) s f))
-  runs_fitted s (note n k) b e ns r o h = runs_fitted s k b e h.0 r o h.2
+module _ {B : Type 0} (count : B → ℕ) (means : B → ℕ → Meaning) (steps : RowRule B) (laws : Rowed count means steps) where
+  call_reaches : (b : B) (i : ℕ) (c : Call) (a : Answer c) (t : B) → steps b i c a t → Reaches (StepBy c) (count b) (means b) i a (count t) (means t)
+  call_reaches b i c a t st = record {
+    here = laws.meets b i c a t st;
+    past = λ past. let same = laws.past b i c a t st past in (same.0, λ j. ap (λ (d : B). means d j) same.1);
+    others = laws.others b i c a t st;
+    keeps = laws.keeps b i c a t st;
+  }
 
-  pub ends_fitted : {N A : Type 0} (s : Shape) (rule : Rule N A) (b e : B) (r : A) → order b → Ends steps rule b r e → order e × (Fitted count means s b → Fitted count means s e)
-  ends_fitted s rule b e r o h = runs_fitted s rule b e h.0 r o h.1
+  runs_fitted : {N A : Type 0} (s : Shape) (rule : Rule N A) (b e : B) (ns : List (N × B)) (r : A) → Runs steps rule b ns r e → Fitted count means s b → Fitted count means s e
+  runs_fitted s (give a) b e ns r h f = subst (Fitted count means s) (sym h.2) f
+  runs_fitted s (ask i c k) b e ns r h f =
+      runs_fitted s (k h.0) h.1 e ns r h.3 (reached_fitted count means (StepBy c) i h.0 (λ m n st. st.size) b h.1 (call_reaches b i c h.0 h.1 h.2) s f)
+  runs_fitted s (note n k) b e ns r h f = runs_fitted s k b e h.0 r h.2 f
 
-  -- a pager that ran a rule is in order, if its ledger is and has the shape that it had
-  pub ends_ordered : {N A : Type 0} (p q : Pager B) (rule : Rule N A) (r : A) → Ordered order count means p → q.ledger.tables.shape ≡ p.ledger.tables.shape → Order q.ledger.tables → Linked q.ledger → Ends steps rule p.bank r q.bank → Ordered order count means q
-  ends_ordered p q rule r o same tables linked run =
-      let kept = ends_fitted p.ledger.tables.shape rule p.bank q.bank r o.bank run in
-      record {
-        bank = kept.0;
-        tables = tables;
-        linked = linked;
-        fitted = subst (λ (s : Shape). within s ≡ true → Fitted count means s q.bank) (sym same) (λ h. kept.1 (o.fitted h));
-      }
+  -- a log that ran a rule is in order, if its tables are and have the shape that they had
+  pub ends_ordered : {N A : Type 0} (p q : Log B) (rule : Rule N A) (r : A) → Ordered count means p → q.ledger.tables.shape ≡ p.ledger.tables.shape → Order q.ledger.tables → Ends steps rule p.bank r q.bank → Ordered count means q
+  ends_ordered p q rule r o same tables run = record {
+    tables = tables;
+    fitted = subst (λ (s : Shape). within s ≡ true → Fitted count means s q.bank) (sym same) (λ h. runs_fitted p.ledger.tables.shape rule p.bank q.bank run.0 r run.1 (o.fitted h));
+  }
 
-  pub ends_kept : {N A : Type 0} (p : Pager B) (e : B) (rule : Rule N A) (r : A) → Ordered order count means p → Ends steps rule p.bank r e → Ordered order count means (record { bank = e; ledger = p.ledger })
-  ends_kept p e rule r o run = ends_ordered p (record { bank = e; ledger = p.ledger }) rule r o refl o.tables o.linked run
+  -- and so it is if its ledger is the one that it had
+  pub ends_kept : {N A : Type 0} (p q : Log B) (rule : Rule N A) (r : A) → Ordered count means p → q.ledger ≡ p.ledger → Ends steps rule p.bank r q.bank → Ordered count means q
+  ends_kept p q rule r o same run = ends_ordered p q rule r o (ap (λ (l : Ledger). l.tables.shape) same) (subst (λ (l : Ledger). Order l.tables) (sym same) o.tables) run

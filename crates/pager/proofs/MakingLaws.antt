@@ -6,8 +6,7 @@ use Rattle.server.specs.Meaning.{Meaning}
 use Rattle.parity_log.specs.declared.ledger.Ledger.{Ledger}
 use Rattle.parity_log.specs.declared.records.Shape.{Shape}
 use Rattle.parity_log.specs.declared.records.Tables.{Tables}
-use Rattle.parity_log.specs.Order.{Order}
-use Rattle.parity_log.specs.Owners.{Linked}
+use Rattle.parity_log.specs.Order.{Limited, Order}
 use Rattle.parity_log.specs.Tables.{within, accepts, capacity, initial}
 use Rattle.parity_log.proofs.Bounds.{shape_bounds}
 use Rattle.parity_log.proofs.OpeningLaws.{initial_settled}
@@ -15,20 +14,8 @@ use Rattle.law.specs.Law.{Lawful}
 use Rattle.law.proofs.Lawful.{Ready, lawful}
 use Rattle.bank.specs.Rows.{RowRule, Rowed}
 use Rattle.parity_log.specs.Making.{sizes, over_all, decided, made_as, made_with, making}
-use Rattle.pager.specs.Moments.{moment_of}
 use Rattle.pager.specs.Order.{Fitted, Ordered}
 use Rattle.pager.proofs.AskingLaws.{span_more}
-
--- whether the servers from k up to n are large enough, where f says how large each is
-abbrev pub Pass : (ℕ → ℕ) → ℕ → ℕ → ℕ → Bool
-Pass f g k n = list_all (leb g) (map f (range_with_len k (n - k)))
-
-module _ (f : ℕ → ℕ) (g k n : ℕ) where
-  pub pass_more : k < n → leb g (f k) ≡ true → Pass f g k n ≡ Pass f g (k + 1) n
-  pass_more h t = rw (span_more k n h, t) refl
-
-  pub pass_not : k < n → leb g (f k) ≡ false → Pass f g k n ≡ false
-  pass_not h t = rw (span_more k n h, t) refl
 
 -- each of a list that passed is large enough
 pass_each : (f : ℕ → ℕ) (g a n : ℕ) → list_all (leb g) (map f (range_with_len a n)) ≡ true → (k : ℕ) → a ≤ k → k < a + n → g ≤ f k
@@ -62,19 +49,17 @@ module _ {B : Type 0} (count : B → ℕ) (means : B → ℕ → Meaning) (b : B
       let last : s.servers ≡ count b - 1 = ap (λ (t : Shape). t.servers) is.0 in
       record { servers = omega arith; sizes = λ k l. pass_each (λ j. (means b j).size) s.groups 0 (count b) both.1 k (omega arith) (omega arith) }
 
-  pub made_ordered : (order : B → Type 0) (l : Ledger) → order b → l.tables ≡ initial s → Linked l → Ordered order count means (record { bank = b; ledger = l })
-  made_ordered order l o is linked =
+  pub made_ordered : (l : Ledger) (few : Limited l.tables) → l.tables ≡ initial s → Ordered count means (record { bank = b; ledger = l; limited = few })
+  made_ordered l few is =
       let can = decided_within v (count b) (means b) g q s e in
       record {
-        bank = o;
         tables = subst Order (sym is) (record { made = λ _. initial_settled s can; not_made = λ cannot. absurd (true≢false (sym can ∙ cannot)) });
-        linked = linked;
         fitted = λ _. subst (λ (t : Tables). Fitted count means t.shape b) (sym is) decided_fitted;
       }
 
-  -- every run from a pager just made, over servers in good order, is lawful
-  pub made_lawful : (order : B → Type 0) (steps : RowRule B) (laws : Rowed count means order steps) (l : Ledger) → order b → l.tables ≡ initial s → Lawful (moment_of count means (record { bank = b; ledger = l }))
-  made_lawful order steps laws l o is =
+  -- every run from a pager just made is lawful
+  pub made_lawful : (steps : RowRule B) (laws : Rowed count means steps) (l : Ledger) → l.tables ≡ initial s → Lawful (record { tables = l.tables; servers = count b; row = means b })
+  made_lawful steps laws l is =
       let fits = decided_fitted in
-      let ready : Ready s (means b) = record { shape = decided_within v (count b) (means b) g q s e; sound = λ k le. laws.sound b k o (omega (arith, fits.servers)); room = fits.sizes } in
+      let ready : Ready s (means b) = record { shape = decided_within v (count b) (means b) g q s e; sound = λ k le. laws.sound b k (omega (arith, fits.servers)); room = fits.sizes } in
       subst (λ (t : Tables). Lawful (record { tables = t; servers = count b; row = means b })) (sym is) (subst (λ (n : ℕ). Lawful (record { tables = initial s; servers = n; row = means b })) (sym fits.servers) (lawful s (means b) ready))

@@ -1,5 +1,5 @@
 -- The ways through a pagein.
-use Rattle.std.proofs.Common.{◌≡◌, ℕ, ◌<◌, Bool, true, false, cond, eqb, ltb, List, [], Some, None as Nowhere, Ok, Err, Result, sym, refl, subst, arith, ltb-true, eqb-true}
+use Rattle.std.proofs.Common.{◌≡◌, ℕ, ◌<◌, Bool, true, false, cond, eqb, ltb, List, [], Some, None as Nowhere, Ok, Err, MatchResult, Result, sym, refl, subst, arith, ltb-true, eqb-true}
 use Rattle.page.specs.declared.faults.Fault.{Fault}
 use Rattle.page.specs.declared.faults.Layer.TheVariants.{Log}
 use Rattle.page.specs.declared.faults.Refusal.TheVariants.{Length, None, Range, Shape}
@@ -15,6 +15,7 @@ use Rattle.parity_log.specs.Rule.{give, Ends}
 use Rattle.parity_log.specs.Tables.{within, capacity, page_state}
 use Rattle.parity_log.proofs.RuleLaws.{ends_bind, ends_give, ends_note}
 use Rattle.pager.specs.Admitted.{Admitted}
+use Rattle.pager.specs.Reads.{Unread, reading_of}
 use Rattle.pager.proofs.Admitting.{Passes, refused_at, let_in}
 
 pub admitted : (v : Tables) (p n : ℕ) → Admitted v p n → (within v.shape ≡ true) × (p < capacity v.shape) × (n ≡ 512)
@@ -44,11 +45,17 @@ module _ {B : Type 0} (steps : RowRule B) (v : Tables) (p n : ℕ) (b e : B) (ad
   unfolding pagein_from
   pagein_lost f g s same is = rw same (pagein_at steps v p n b b admit (Lost g s) (Err (lost_page p g s)) is (ends_give steps (Err (lost_page p g s)) b))
 
-  pub pagein_found : (g i : ℕ) (x : List ℕ) → page_state v p ≡ Out g i → Ends steps (read v g i) b (found x) e → Ends steps (pagein v p n) b (Ok x) e
+  pagein_found : (g i : ℕ) (x : List ℕ) → page_state v p ≡ Out g i → Ends steps (read v g i) b (found x) e → Ends steps (pagein v p n) b (Ok x) e
   unfolding pagein_from
   pagein_found g i x is run = pagein_at steps v p n b e admit (Out g i) (Ok x) is (ends_bind steps (read v g i) (λ r. delivered v p g i r) b e e (found x) (Ok x) run (ends_give steps (Ok x) e))
 
-  pub pagein_missed : (f : Fault) (g i s : ℕ) → f ≡ lost_page p g s → page_state v p ≡ Out g i → Ends steps (read v g i) b (missed s) e → Ends steps (pagein v p n) b (Err f) e
+  pagein_missed : (g i s : ℕ) → page_state v p ≡ Out g i → Ends steps (read v g i) b (missed s) e → Ends steps (pagein v p n) b (Err (lost_page p g s)) e
   unfolding pagein_from
-  pagein_missed f g i s same is run = rw same (pagein_at steps v p n b e admit (Out g i) (Err (lost_page p g s)) is
-      (ends_bind steps (read v g i) (λ r. delivered v p g i r) b e e (missed s) (Err (lost_page p g s)) run (ends_note steps _ (give (Err (lost_page p g s))) e e (Err (lost_page p g s)) (ends_give steps (Err (lost_page p g s)) e))))
+  pagein_missed g i s is run = pagein_at steps v p n b e admit (Out g i) (Err (lost_page p g s)) is
+      (ends_bind steps (read v g i) (λ r. delivered v p g i r) b e e (missed s) (Err (lost_page p g s)) run (ends_note steps _ (give (Err (lost_page p g s))) e e (Err (lost_page p g s)) (ends_give steps (Err (lost_page p g s)) e)))
+
+  -- a page that is out is read, or lost by what the reading says is missing
+  pub pagein_read : (g i : ℕ) (r : Result (Unit {0}) ℕ) (a : Result (Unit {0}) Fault) (x y : List ℕ) → page_state v p ≡ Out g i → MatchResult r (λ u. a ≡ Ok u) (λ s. a ≡ Err (lost_page p g s)) → Ends steps (read v g i) b (reading_of r x) e → Unread r y x
+      → Ends steps (pagein v p n) b (filled a x) e × Left a y x
+  pagein_read g i (Ok u) a x y is says run left = rw says (pagein_found g i x is run, tt)
+  pagein_read g i (Err s) a x y is says run left = rw says (pagein_missed g i s is run, left)

@@ -1,5 +1,6 @@
 -- The ways through a pageout, and what it leaves.
 use Rattle.std.proofs.Common.{◌≡◌, ℕ, ◌+◌, ◌-◌, ◌<◌, Bool, true, false, cond, eqb, List, length, get_or, set, Some, None, Ok, Err, sym, refl, ap, ◌∙◌, subst, arith, get_or-set_same, eq-eqb, ne_eqb}
+use Rattle.page.specs.declared.pages.Page.{Page}
 use Rattle.bank.specs.Rows.{RowRule}
 use Rattle.parity_log.specs.declared.records.PageState.{PageState}
 use Rattle.parity_log.specs.declared.records.PageState.TheVariants.{NotOut, Out, Lost}
@@ -10,13 +11,13 @@ use Rattle.parity_log.specs.Choices.{open_group}
 use Rattle.parity_log.specs.Faults.{lost_page}
 use Rattle.parity_log.specs.Tables.{capacity, weight, page_state, state_of, with_page, group_of}
 use Rattle.parity_log.specs.Order.{Sound, Settled, Leaving}
-use Rattle.parity_log.specs.Reading.{gather, restored}
+use Rattle.parity_log.specs.Reading.{Gathered, gather, restored}
 use Rattle.parity_log.specs.Paging.{Told, told, ready, with_open, place, placed, release_old, released_old, close_full, closed_full, shut, judged, ending, steps}
 use Rattle.parity_log.proofs.Bounds.{shape_bounds, capacity_fits}
 use Rattle.parity_log.proofs.Keeping.{lose_leaves, place_leaves, release_settles, release_open, release_same, close_settles}
 use Rattle.parity_log.proofs.RuleLaws.{ends_bind, ends_give, ends_note}
 use Rattle.parity_log.proofs.SoundLaws.{positions_within}
-use Rattle.pager.specs.Reads.{gathered}
+use Rattle.pager.specs.Reads.{Gathers}
 use Rattle.pager.specs.Places.{Fit, placed_as}
 
 -- a page that is out is out at a place in the tables
@@ -31,16 +32,16 @@ module _ {B : Type 0} (steps' : RowRule B) (v : Tables) (p g i : ℕ) (b e : B) 
   unfolding ending
   done_ends = ends_give steps' (told (Ok tt) v) b
 
-  module _ (sum : List ℕ) (others : ℕ) where
-    pub kept_ends : others ≡ 0 → Ends steps' (gather v g i) b (gathered sum others) e → Ends steps' (ending v p g i false) b (told (Ok tt) v) e
+  module _ (q : Gathered) where
+    pub kept_ends : (x : Page) → Gathers q (Ok x) → Ends steps' (gather v g i) b q e → Ends steps' (ending v p g i false) b (told (Ok tt) v) e
     unfolding ending judged
-    kept_ends h run = ends_bind steps' (gather v g i) (λ r. judged v p g i (restored v i r)) b e e (gathered sum others) (told (Ok tt) v) run (rw (eq-eqb others 0 h) (ends_give steps' (told (Ok tt) v) e))
+    kept_ends x h run = ends_bind steps' (gather v g i) (λ r. judged v p g i (restored v i r)) b e e q (told (Ok tt) v) run (rw (eq-eqb q.missing 0 h.0) (ends_give steps' (told (Ok tt) v) e))
 
-    pub lost_ends : (m : B) (w : Tables) (s : ℕ) → (others ≡ 0 → ⊥) → s ≡ others + weight v.shape.servers i → Ends steps' (gather v g i) b (gathered sum others) m → Ends steps' (release_old (Some g) (with_page v p (Lost g s))) m w e → Ends steps' (ending v p g i false) b (told (Err (lost_page p g s)) w) e
+    pub lost_ends : (m : B) (w : Tables) (others s : ℕ) → Gathers q (Err others) → s ≡ others + weight v.shape.servers i → Ends steps' (gather v g i) b q m → Ends steps' (release_old (Some g) (with_page v p (Lost g s))) m w e → Ends steps' (ending v p g i false) b (told (Err (lost_page p g s)) w) e
     unfolding ending judged
-    lost_ends m w s h q run rel =
-        ends_bind steps' (gather v g i) (λ r. judged v p g i (restored v i r)) b m e (gathered sum others) (told (Err (lost_page p g s)) w) run
-        (rw (ne_eqb others 0 h, sym q) (ends_note steps' _ _ m e _ (ends_bind steps' (release_old (Some g) (with_page v p (Lost g s))) (λ x. give (told (Err (lost_page p g s)) x)) m e e w _ rel (ends_give steps' _ e))))
+    lost_ends m w others s h is run rel =
+        ends_bind steps' (gather v g i) (λ r. judged v p g i (restored v i r)) b m e q (told (Err (lost_page p g s)) w) run
+        (rw (ne_eqb q.missing 0 (λ z. h.1 (sym h.0 ∙ z)), h.0, sym is) (ends_note steps' _ _ m e _ (ends_bind steps' (release_old (Some g) (with_page v p (Lost g s))) (λ x. give (told (Err (lost_page p g s)) x)) m e e w _ rel (ends_give steps' _ e))))
 
 -- the five parts of a pageout
 pub paged : {B : Type 0} (steps' : RowRule B) (v o t w u : Tables) (p g : ℕ) (x : List ℕ) (done : Bool) (r : Told) (b b₁ b₂ b₃ b₄ e : B) → Ends steps' (with_open v (open_group v)) b (ready g o) b₁ → Ends steps' (place o g p x) b₁ (placed_as done t) b₂

@@ -9,7 +9,7 @@ use Rattle.bank.specs.Rows.{RowRule, Rowed, Reaches}
 use Rattle.parity_log.specs.declared.records.Tables.{Tables}
 use Rattle.law.specs.Rows.{Row}
 use Rattle.law.specs.Runs.{Moment, loses, returns}
-use Rattle.pager.specs.declared.Pager.{Pager}
+use Rattle.pager.specs.declared.log.Log.{Log}
 use Rattle.pager.specs.Moments.{AtMost}
 use Rattle.pager.specs.Order.{Ordered}
 use Rattle.pager.proofs.Fitting.{reached_ordered}
@@ -33,7 +33,7 @@ module _ {B : Type 0} (count : B → ℕ) (means : B → ℕ → Meaning) (b e :
   own_unmoved : (v : Tables) → means e k ≡ means b k → moment v (count e) (means e) ≡ moment v (count b) (means b)
   own_unmoved v own = unmoved v (λ j. ⊎_elim (λ same. subst (λ (i : ℕ). means e i ≡ means b i) (sym same) own) (λ other. moved.others j other) (cases_eq j k))
 
-module _ {B : Type 0} (count : B → ℕ) (means : B → ℕ → Meaning) (order : B → Type 0) (steps : RowRule B) (laws : Rowed count means order steps) (b e : B) (o : order e) (v : Tables) (k : ℕ) (a : Result (Unit {0}) Fault) where
+module _ {B : Type 0} (count : B → ℕ) (means : B → ℕ → Meaning) (steps : RowRule B) (laws : Rowed count means steps) (b e : B) (v : Tables) (k : ℕ) (a : Result (Unit {0}) Fault) where
   -- a server that was up lost all, and for one that was down nothing happened
   pub falls_turn : Reaches Fell (count b) (means b) k a (count e) (means e) → AtMost (moment v (count b) (means b)) (loses k) (moment v (count e) (means e))
   falls_turn moved = ⊎_elim (λ here. fell here (moved.here here).1 (means b k).up refl) (λ past. inl (unmoved count means b e k a Fell moved v (moved.past past).1)) (cases_lt k (count b))
@@ -42,7 +42,7 @@ module _ {B : Type 0} (count : B → ℕ) (means : B → ℕ → Meaning) (order
       fell here f false u = inl (own_unmoved count means b e k a Fell moved v (f.down u))
       fell here f true u = inr (record {
         servers = moved.keeps;
-        goes = (here, record { size = f.size; era = (f.up u).1; slots = λ j. inr ((f.up u).2 j); sound = laws.sound e k o (subst (λ (n : ℕ). k < n) (sym moved.keeps) here) }, moved.others, refl);
+        goes = (here, record { size = f.size; era = (f.up u).1; slots = λ j. inr ((f.up u).2 j); sound = laws.sound e k (subst (λ (n : ℕ). k < n) (sym moved.keeps) here) }, moved.others, refl);
       })
 
   -- a server that was down came up empty, or nothing happened
@@ -56,9 +56,9 @@ module _ {B : Type 0} (count : B → ℕ) (means : B → ℕ → Meaning) (order
           (λ worn. inl (own_unmoved count means b e k a Backs moved v worn.1))
           (r.down u)
 
-module _ {B : Type 0} (count : B → ℕ) (means : B → ℕ → Meaning) (order : B → Type 0) (p : Pager B) (e : B) (o : order e) (k : ℕ) (a : Result (Unit {0}) Fault) (h : Ordered order count means p) where
-  pub falls_ordered : Reaches Fell (count p.bank) (means p.bank) k a (count e) (means e) → Ordered order count means (record { bank = e; ledger = p.ledger })
-  falls_ordered moved = reached_ordered count means Fell k a (λ m n f. f.1.size) order p e moved o h
+module _ {B : Type 0} (count : B → ℕ) (means : B → ℕ → Meaning) (p q : Log B) (same : q.ledger ≡ p.ledger) (k : ℕ) (a : Result (Unit {0}) Fault) (h : Ordered count means p) where
+  pub falls_ordered : Reaches Fell (count p.bank) (means p.bank) k a (count q.bank) (means q.bank) → Ordered count means q
+  falls_ordered moved = reached_ordered count means Fell k a (λ m n f. f.1.size) p q same moved h
 
-  pub backs_ordered : Reaches Backs (count p.bank) (means p.bank) k a (count e) (means e) → Ordered order count means (record { bank = e; ledger = p.ledger })
-  backs_ordered moved = reached_ordered count means Backs k a (λ m n r. backs_size m a n r) order p e moved o h
+  pub backs_ordered : Reaches Backs (count p.bank) (means p.bank) k a (count q.bank) (means q.bank) → Ordered count means q
+  backs_ordered moved = reached_ordered count means Backs k a (λ m n r. backs_size m a n r) p q same moved h

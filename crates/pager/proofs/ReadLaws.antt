@@ -1,14 +1,16 @@
 -- The ways through the reading of a position.
-use Rattle.std.proofs.Common.{◌≡◌, ℕ, ◌+◌, List, Ok, Err, Result, subst, eq-eqb, ne_eqb}
+use Rattle.std.proofs.Common.{◌≡◌, ℕ, ◌+◌, List, Ok, Err, Result, sym, ap, ◌∙◌, subst, eq-eqb, ne_eqb}
 use Rattle.page.specs.declared.faults.Fault.{Fault}
+use Rattle.page.specs.declared.pages.Page.{Page}
 use Rattle.server.specs.Calls.{to_get}
 use Rattle.bank.specs.Rows.{RowRule}
+use Rattle.parity_log.specs.declared.ledger.Ledger.{Ledger}
 use Rattle.parity_log.specs.declared.records.Tables.{Tables}
 use Rattle.parity_log.specs.Rule.{give, Ends}
 use Rattle.parity_log.specs.Tables.{weight}
-use Rattle.parity_log.specs.Reading.{gather, read, restored, found, missed, or_restored}
+use Rattle.parity_log.specs.Reading.{Gathered, gather, read, restored, found, missed, or_restored}
 use Rattle.parity_log.proofs.RuleLaws.{ends_bind, ends_give, ends_ask}
-use Rattle.pager.specs.Reads.{gathered}
+use Rattle.pager.specs.Reads.{Gathers}
 
 -- a get with a whole buffer
 pub whole_get : {B : Type 0} (steps : RowRule B) (b e : B) (i g n : ℕ) (a : Result (List ℕ) Fault) → n ≡ 512 → steps b i (to_get g n) a e → steps b i (to_get g 512) a e
@@ -19,13 +21,17 @@ module _ {B : Type 0} (steps : RowRule B) (v : Tables) (g i n : ℕ) (l : n ≡ 
   unfolding read
   read_own x st = ends_ask steps i (to_get g 512) (λ a. or_restored v g i a) b e e (Ok x) (found x) (whole_get steps b e i g n (Ok x) l st) (ends_give steps (found x) e)
 
-  module _ (m : B) (f : Fault) (st : steps b i (to_get g n) (Err f) m) (sum : List ℕ) (missing : ℕ) (run : Ends steps (gather v g i) m (gathered sum missing) e) where
-    read_others : Ends steps (read v g i) b (restored v i (gathered sum missing)) e
+  module _ (m : B) (f : Fault) (st : steps b i (to_get g n) (Err f) m) (q : Gathered) (run : Ends steps (gather v g i) m q e) where
+    read_others : Ends steps (read v g i) b (restored v i q) e
     unfolding read
-    read_others = ends_ask steps i (to_get g 512) (λ a. or_restored v g i a) b m e (Err f) _ (whole_get steps b m i g n (Err f) l st) (ends_bind steps (gather v g i) (λ r. give (restored v i r)) m e e (gathered sum missing) _ run (ends_give steps _ e))
+    read_others = ends_ask steps i (to_get g 512) (λ a. or_restored v g i a) b m e (Err f) _ (whole_get steps b m i g n (Err f) l st) (ends_bind steps (gather v g i) (λ r. give (restored v i r)) m e e q _ run (ends_give steps _ e))
 
-    pub read_restored : missing ≡ 0 → Ends steps (read v g i) b (found sum) e
-    read_restored h = rw (eq-eqb missing 0 h) at read_others
+    pub read_restored : (p : Page) → Gathers q (Ok p) → Ends steps (read v g i) b (found p.0) e
+    read_restored p h = rw (eq-eqb q.missing 0 h.0, h.1) at read_others
 
-    pub read_missed : (missing ≡ 0 → ⊥) → Ends steps (read v g i) b (missed (missing + weight v.shape.servers i)) e
-    read_missed h = rw (ne_eqb missing 0 h) at read_others
+    pub read_missed : (s : ℕ) → Gathers q (Err s) → Ends steps (read v g i) b (missed (s + weight v.shape.servers i)) e
+    read_missed s h = rw (ne_eqb q.missing 0 (λ z. h.1 (sym h.0 ∙ z)), h.0) at read_others
+
+-- a weight is the same where the tables are
+pub own_weight : (l k : Ledger) (i w : ℕ) → l ≡ k → w ≡ weight l.tables.shape.servers i → w ≡ weight k.tables.shape.servers i
+own_weight l k i w same is = is ∙ ap (λ (x : Ledger). weight x.tables.shape.servers i) same

@@ -1,6 +1,7 @@
 -- The ways through the visit of a group.
-use Rattle.std.proofs.Common.{◌≡◌, ℕ, ◌<◌, ◌≤◌, cond, List, is_ok, None, Ok, Err, Result, sym, subst, le-ltb, lt-ltb, eq-eqb, ne_eqb}
+use Rattle.std.proofs.Common.{◌≡◌, ℕ, ◌<◌, ◌≤◌, cond, List, is_ok, None, Ok, Err, Result, sym, ◌∙◌, subst, le-ltb, lt-ltb, eq-eqb, ne_eqb}
 use Rattle.page.specs.declared.faults.Fault.{Fault}
+use Rattle.page.specs.declared.pages.Page.{Page}
 use Rattle.server.specs.Calls.{to_get, to_put}
 use Rattle.bank.specs.Rows.{RowRule}
 use Rattle.parity_log.specs.declared.records.Progress.{Progress}
@@ -9,29 +10,29 @@ use Rattle.parity_log.specs.declared.records.Visit.{Visit}
 use Rattle.parity_log.specs.declared.records.Visit.TheVariants.{Intact, Rebuilt, Failed}
 use Rattle.parity_log.specs.Rule.{give, Ends}
 use Rattle.parity_log.specs.Tables.{member_count_of, state_of}
-use Rattle.parity_log.specs.Reading.{Finding, gather}
+use Rattle.parity_log.specs.Reading.{Finding, Gathered, gather}
 use Rattle.parity_log.specs.Rebuilding.{put_back, mend, visit, counted, stepped, step_unless}
 use Rattle.parity_log.proofs.RuleLaws.{ends_ask, ends_bind, ends_give}
-use Rattle.pager.specs.Reads.{gathered}
+use Rattle.pager.specs.Reads.{Gathers}
 use Rattle.pager.proofs.ReadLaws.{whole_get}
 
-module _ {B : Type 0} (steps : RowRule B) (k g : ℕ) (sum : List ℕ) (missing : ℕ) (b e : B) where
-  pub nothing_put : (missing ≡ 0 → ⊥) → Ends steps (put_back k g (gathered sum missing)) b Failed b
-  unfolding put_back
-  nothing_put h = rw (ne_eqb missing 0 h) (ends_give steps Failed b)
+module _ {B : Type 0} (steps : RowRule B) (v : Tables) (k g : ℕ) (b m : B) (f : Fault) (q : Gathered) (asked : Ends steps (gather v g k) b q m) where
+  mends : (r : Visit) (e : B) → Ends steps (put_back k g q) m r e → Ends steps (mend v k g (Err f)) b r e
+  unfolding mend
+  mends r e put = ends_bind steps (gather v g k) (λ p. put_back k g p) b m e q r asked put
 
-  pub puts : (a : Result (Unit {0}) Fault) → missing ≡ 0 → steps b k (to_put g sum) a e → Ends steps (put_back k g (gathered sum missing)) b (cond (is_ok a) Rebuilt Failed) e
+  pub nothing_put : (s : ℕ) → Gathers q (Err s) → Ends steps (mend v k g (Err f)) b Failed m
   unfolding put_back
-  puts a h st = rw (eq-eqb missing 0 h) (ends_ask steps k (to_put g sum) (λ d. give (cond (is_ok d) Rebuilt Failed)) b e e a _ st (ends_give steps _ e))
+  nothing_put s h = mends Failed m (rw (ne_eqb q.missing 0 (λ z. h.1 (sym h.0 ∙ z))) (ends_give steps Failed m))
+
+  pub puts : (p : Page) (a : Result (Unit {0}) Fault) (e : B) → Gathers q (Ok p) → steps m k (to_put g p.0) a e → Ends steps (mend v k g (Err f)) b (cond (is_ok a) Rebuilt Failed) e
+  unfolding put_back
+  puts p a e h st = mends _ e (rw (eq-eqb q.missing 0 h.0, h.1) (ends_ask steps k (to_put g p.0) (λ d. give (cond (is_ok d) Rebuilt Failed)) m e e a _ st (ends_give steps _ e)))
 
 module _ {B : Type 0} (steps : RowRule B) (v : Tables) (k g : ℕ) (b m e : B) where
   pub delivers : (x : List ℕ) → Ends steps (mend v k g (Ok x)) b Intact b
   unfolding mend
   delivers x = ends_give steps Intact b
-
-  pub mends : (sum : List ℕ) (missing : ℕ) (r : Visit) (f : Fault) → Ends steps (gather v g k) b (gathered sum missing) m → Ends steps (put_back k g (gathered sum missing)) m r e → Ends steps (mend v k g (Err f)) b r e
-  unfolding mend
-  mends sum missing r f asked put = ends_bind steps (gather v g k) (λ q. put_back k g q) b m e (gathered sum missing) r asked put
 
   pub no_member : (n : ℕ) → n ≡ member_count_of (state_of v g) v.shape.servers v.filled → n ≤ k → Ends steps (visit v k g) b Intact b
   unfolding visit

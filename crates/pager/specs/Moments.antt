@@ -1,12 +1,12 @@
--- A pager as a moment of a run.
+-- A pager's log as a moment of a run.
 use Rattle.std.specs.Prelude.{◌≡◌, ℕ, ◌⊎◌, List}
 use Rattle.server.specs.Meaning.{Meaning}
 use Rattle.parity_log.specs.Reading.{Finding}
 use Rattle.law.specs.Rows.{Row}
 use Rattle.law.specs.Runs.{Moment, Turn, Happens}
-use Rattle.pager.specs.declared.Pager.{Pager}
+use Rattle.pager.specs.declared.log.Log.{Log}
 
-abbrev pub moment_of : {B : Type 0} → (B → ℕ) → (B → ℕ → Meaning) → Pager B → Moment
+abbrev pub moment_of : {B : Type 0} → (B → ℕ) → (B → ℕ → Meaning) → Log B → Moment
 moment_of count means p = record { tables = p.ledger.tables; servers = count p.bank; row = means p.bank }
 
 -- a call is this turn, with some findings

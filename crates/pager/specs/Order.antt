@@ -1,19 +1,16 @@
--- The good order of a pager: what making gives, and every call keeps.
+-- The good order of a pager: what it is between calls.
 use Rattle.std.specs.Prelude.{◌≡◌, ℕ, ◌+◌, ◌≤◌, true}
 use Rattle.server.specs.Meaning.{Meaning}
 use Rattle.parity_log.specs.declared.records.Shape.{Shape}
 use Rattle.parity_log.specs.Tables.{within}
 use Rattle.parity_log.specs.Order.{Order}
-use Rattle.parity_log.specs.Owners.{Linked}
-use Rattle.pager.specs.declared.Pager.{Pager}
+use Rattle.pager.specs.declared.log.Log.{Log}
 
 -- the bank has a server for each position and one for the parity, each with a slot for every group
 pub record Fitted {B : Type 0} (count : B → ℕ) (means : B → ℕ → Meaning) (s : Shape) (b : B) : Type 0 where
   pub servers : count b ≡ s.servers + 1
   pub sizes : (k : ℕ) → k ≤ s.servers → s.groups ≤ (means b k).size
 
-pub record Ordered {B : Type 0} (order : B → Type 0) (count : B → ℕ) (means : B → ℕ → Meaning) (p : Pager B) : Type 0 where
-  pub bank : order p.bank
+pub record Ordered {B : Type 0} (count : B → ℕ) (means : B → ℕ → Meaning) (p : Log B) : Type 0 where
   pub tables : Order p.ledger.tables
-  pub linked : Linked p.ledger
   pub fitted : within p.ledger.tables.shape ≡ true → Fitted count means p.ledger.tables.shape p.bank

@@ -1,14 +1,19 @@
 -- What the reading of members comes to in the code.
-use Rattle.std.specs.Prelude.{◌≡◌, ℕ, ◌≤◌, List, Ok, Err, Result}
+use Rattle.std.specs.Prelude.{◌≡◌, ℕ, ◌≢◌, List, Ok, Err, Result}
 use Rattle.page.specs.declared.faults.Fault.{Fault}
+use Rattle.page.specs.declared.pages.Page.{Page}
 use Rattle.server.specs.Calls.{to_get}
 use Rattle.bank.specs.Rows.{RowRule}
-use Rattle.parity_log.specs.declared.records.Tables.{Tables}
 use Rattle.parity_log.specs.Tables.{weight}
 use Rattle.parity_log.specs.Reading.{Gathered, Reading, found, missed, added, refusers}
 
 abbrev pub gathered : List ℕ → ℕ → Gathered
 gathered sum missing = record { sum = sum; missing = missing }
+
+-- what the others came to: their sum if none of them refused, or else the set of those that did
+abbrev pub Gathers : Gathered → Result Page ℕ → Type 0
+Gathers q (Ok p) = (q.missing ≡ 0) × (q.sum ≡ p.0)
+Gathers q (Err s) = (q.missing ≡ s) × (s ≢ 0)
 
 -- one member is asked: what it delivers is added, or its weight is answered
 abbrev pub AskedOne : {B : Type 0} → RowRule B → ℕ → ℕ → ℕ → B → List ℕ → ℕ → B → List ℕ → Type 0
@@ -23,8 +28,3 @@ reading_of (Err s) buffer = missed s
 abbrev pub Unread : Result (Unit {0}) ℕ → List ℕ → List ℕ → Type 0
 Unread (Ok x) before after = Unit {0}
 Unread (Err s) before after = after ≡ before
-
--- tables whose counts are within their limits
-pub record Limited (v : Tables) : Type 0 where
-  pub servers : v.shape.servers ≤ 8
-  pub filled : v.filled ≤ v.shape.servers

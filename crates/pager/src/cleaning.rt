@@ -1,25 +1,22 @@
 ghost use Rattle.std.specs.Prelude.{◌≡◌, ◌+◌, ◌<◌, Some as Just, None as Nothing};
 ghost use Rattle.parity_log.specs.Choices.{next_free, open_group};
 ghost use Rattle.parity_log.specs.Order.{Cleaning, Settled};
-ghost use Rattle.parity_log.specs.Owners.{Linked};
 ghost use Rattle.parity_log.specs.Paging.{clean as clean_rule, move as move_rule, move_all, open_next_rule, ready as ready_rule, with_open};
 ghost use Rattle.parity_log.specs.Rule.{Ends};
 ghost use Rattle.parity_log.specs.Tables.{page_at};
 ghost use Rattle.pager.specs.Places.{Ready};
 ghost use Rattle.std.specs.List.{range_with_len};
 
-use crate::Pager;
-use crate::reading::read;
+use crate::log::Log;
 use bank::Bank;
 use page::Page;
 use parity_log::PageState;
 
-impl<B: Bank> Pager<B> {
+impl<B: Bank> Log<B> {
     // Moves the page at a position of the group being cleaned, if one is out there; one that can't be read becomes lost.
     fn move_one(&mut self, into: usize, from: usize, position: usize)
-        requires { (B.Bank.order self.old.bank) × ((Linked self.old.ledger) × ((Cleaning self.old.ledger.tables into from position) × (position < self.old.ledger.tables.shape.servers))) }
-        ensures order { B.Bank.order self.new.bank }
-        ensures linked { Linked self.new.ledger }
+        requires cleaning { Cleaning self.old.ledger.tables into from position }
+        requires position { position < self.old.ledger.tables.shape.servers }
         ensures cleaning { Cleaning self.new.ledger.tables into from (position + 1) }
         ensures shape { self.new.ledger.tables.shape ≡ self.old.ledger.tables.shape }
         ensures ran { Ends B.Bank.steps (move_rule self.old.ledger.tables into from position (page_at self.old.ledger.tables.pages from position)) self.old.bank self.new.ledger.tables self.new.bank }
@@ -28,15 +25,9 @@ impl<B: Bank> Pager<B> {
             return;
         };
         let mut bytes = Page::zero();
-        match read(
-            &mut self.bank,
-            &self.ledger.tables,
-            from,
-            position,
-            &mut bytes.0,
-        ) {
+        match self.read(from, position, &mut bytes.0) {
             Ok(_) => {
-                let _done = self.place(into, page, &bytes.0);
+                let _ = self.place(into, page, &bytes.0);
             }
             Err(missing) => self.ledger.set_page(
                 page,
@@ -49,9 +40,7 @@ impl<B: Bank> Pager<B> {
     }
 
     fn move_all(&mut self, into: usize, from: usize)
-        requires { (B.Bank.order self.old.bank) × ((Linked self.old.ledger) × (Cleaning self.old.ledger.tables into from 0)) }
-        ensures order { B.Bank.order self.new.bank }
-        ensures linked { Linked self.new.ledger }
+        requires { Cleaning self.old.ledger.tables into from 0 }
         ensures cleaning { Cleaning self.new.ledger.tables into from self.new.ledger.tables.shape.servers }
         ensures shape { self.new.ledger.tables.shape ≡ self.old.ledger.tables.shape }
         ensures ran { Ends B.Bank.steps (move_all (range_with_len 0 self.old.ledger.tables.shape.servers) into from self.old.ledger.tables) self.old.bank self.new.ledger.tables self.new.bank }
@@ -64,9 +53,7 @@ impl<B: Bank> Pager<B> {
 
     // Moves what is live in a group into the open one, and frees the group.
     fn clean(&mut self, into: usize, from: usize)
-        requires { (B.Bank.order self.old.bank) × ((Linked self.old.ledger) × (Cleaning self.old.ledger.tables into from 0)) }
-        ensures order { B.Bank.order self.new.bank }
-        ensures linked { Linked self.new.ledger }
+        requires { Cleaning self.old.ledger.tables into from 0 }
         ensures ready { Ready self.new.ledger.tables into }
         ensures shape { self.new.ledger.tables.shape ≡ self.old.ledger.tables.shape }
         ensures ran { Ends B.Bank.steps (clean_rule self.old.ledger.tables into (Just from)) self.old.bank self.new.ledger.tables self.new.bank }
@@ -77,9 +64,8 @@ impl<B: Bank> Pager<B> {
 
     // Opens the next group; the last free one only for a cleaning.
     fn open_next(&mut self) -> usize
-        requires { (B.Bank.order self.old.bank) × ((Linked self.old.ledger) × ((Settled self.old.ledger.tables) × (open_group self.old.ledger.tables ≡ Nothing))) }
-        ensures order { B.Bank.order self.new.bank }
-        ensures linked { Linked self.new.ledger }
+        requires settled { Settled self.old.ledger.tables }
+        requires none_open { open_group self.old.ledger.tables ≡ Nothing }
         ensures ready { Ready self.new.ledger.tables result }
         ensures shape { self.new.ledger.tables.shape ≡ self.old.ledger.tables.shape }
         ensures ran { Ends B.Bank.steps (open_next_rule self.old.ledger.tables (next_free self.old.ledger.tables)) self.old.bank (ready_rule result self.new.ledger.tables) self.new.bank }
@@ -99,9 +85,7 @@ impl<B: Bank> Pager<B> {
 
     // The open group, or one that is opened now.
     pub(crate) fn ready(&mut self) -> usize
-        requires { (B.Bank.order self.old.bank) × ((Linked self.old.ledger) × (Settled self.old.ledger.tables)) }
-        ensures order { B.Bank.order self.new.bank }
-        ensures linked { Linked self.new.ledger }
+        requires { Settled self.old.ledger.tables }
         ensures ready { Ready self.new.ledger.tables result }
         ensures shape { self.new.ledger.tables.shape ≡ self.old.ledger.tables.shape }
         ensures ran { Ends B.Bank.steps (with_open self.old.ledger.tables (open_group self.old.ledger.tables)) self.old.bank (ready_rule result self.new.ledger.tables) self.new.bank }

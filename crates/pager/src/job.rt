@@ -6,6 +6,6 @@ use parity_log::Progress;
 
 // A rebuild under way. It is no `Drop`: whoever has one must close it.
 pub struct RebuildJob {
-    progress: Progress,
+    pub(crate) progress: Progress,
     ghost counted: { progress.rebuilt + progress.failed ≤ progress.group },
 }

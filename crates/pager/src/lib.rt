@@ -3,6 +3,7 @@
 
 mod cleaning;
 mod job;
+mod log;
 mod making;
 mod pagein;
 mod pageout;
@@ -11,13 +12,15 @@ mod pulling;
 mod reading;
 mod visiting;
 
+ghost use Rattle.pager.specs.Order.{Ordered};
+
 use bank::Bank;
 pub use job::RebuildJob;
-use parity_log::Ledger;
+use log::Log;
 
-// The log's tables over a bank of S data servers and a parity server.
+// A parity log between calls.
 #[derive(Drop)]
-pub struct Pager<B> {
-    bank: B,
-    ledger: Ledger,
+pub struct Pager<B: Bank> {
+    log: Log<B>,
+    pub ghost ordered: { Ordered B.Bank.count B.Bank.means log },
 }

@@ -8,55 +8,30 @@ ghost use Rattle.pager.specs.Order.{Ordered};
 ghost use Rattle.std.specs.List.{list_all};
 
 use crate::Pager;
+use crate::log::Log;
 use bank::Bank;
 use page::{Fault, Layer, Refusal};
 use parity_log::{Ledger, Shape};
 
-impl<B: Bank> Pager<B> {
-    // A pager that is not made yet: it has a shape that no pager can have.
-    pub fn new(bank: B) -> Pager<B>
-        requires { B.Bank.order bank }
-        ensures order { Ordered B.Bank.order B.Bank.count B.Bank.means result }
-        ensures bank { result.bank ≡ bank }
-        ensures tables { result.ledger.tables ≡ unmade }
-    {
-        let unmade = Shape {
-            servers: 0,
-            groups: 0,
-            spares: 0,
-        };
-        Pager {
-            bank,
-            ledger: Ledger::new(unmade),
-        }
-    }
-
+impl<B: Bank> Log<B> {
     fn has_slots(&self, server: usize, groups: usize) -> bool
-        requires { (B.Bank.order self.now.bank) × (server < B.Bank.count self.now.bank) }
+        requires { server < B.Bank.count self.now.bank }
         ensures { result ≡ nat_le groups (B.Bank.means self.now.bank server).size }
     {
-        match self.bank.size(server) {
-            Ok(size) => groups <= size,
-            Err(_) => false,
-        }
+        self.bank.size(server).is_ok_and(|size| groups <= size)
     }
 
     // Whether every server has a slot for each group, the parity server too.
     fn all_fit(&self, shape: Shape) -> bool
-        requires { (B.Bank.order self.now.bank) × ((shape.servers ≤ 8) × (B.Bank.count self.now.bank ≡ shape.servers + 1)) }
+        requires servers { shape.servers ≤ 8 }
+        requires count { B.Bank.count self.now.bank ≡ shape.servers + 1 }
         ensures { result ≡ list_all (leb shape.groups) (sizes (B.Bank.count self.now.bank) (B.Bank.means self.now.bank)) }
     {
-        for server in 0..shape.servers + 1 {
-            if !self.has_slots(server, shape.groups) {
-                return false;
-            }
-        }
-        true
+        (0..shape.servers + 1).all(|server| self.has_slots(server, shape.groups))
     }
 
     // The shape over all servers, if this pager has none yet and can have that.
     fn decide(&self, groups: usize, spares: usize) -> Option<Shape>
-        requires { B.Bank.order self.now.bank }
         ensures { result ≡ decided self.now.ledger.tables (B.Bank.count self.now.bank) (B.Bank.means self.now.bank) groups spares }
     {
         if self.ledger.tables.shape.is_within() {
@@ -68,26 +43,38 @@ impl<B: Bank> Pager<B> {
             groups,
             spares,
         };
-        if shape.is_within() && self.all_fit(shape) {
-            Some(shape)
-        } else {
-            None
+        (shape.is_within() && self.all_fit(shape)).then_some(shape)
+    }
+}
+
+impl<B: Bank> Pager<B> {
+    // A pager that is not made yet: it has a shape that no pager can have.
+    pub fn new(bank: B) -> Pager<B>
+        ensures bank { result.log.bank ≡ bank }
+        ensures tables { result.log.ledger.tables ≡ unmade }
+    {
+        let unmade = Shape {
+            servers: 0,
+            groups: 0,
+            spares: 0,
+        };
+        let ledger = Ledger::new(unmade);
+        Pager {
+            log: Log { bank, ledger },
         }
     }
 
     // Decides the pager's shape, once; answers how many pages it has. From then on every run of the pager is lawful.
     pub fn make(&mut self, groups: usize, spares: usize) -> Result<usize, Fault>
-        requires { Ordered B.Bank.order B.Bank.count B.Bank.means self.old }
-        ensures order { Ordered B.Bank.order B.Bank.count B.Bank.means self.new }
-        ensures bank { self.new.bank ≡ self.old.bank }
-        ensures made { making self.old.ledger.tables (B.Bank.count self.old.bank) (B.Bank.means self.old.bank) groups spares ≡ made_as result self.new.ledger.tables }
-        ensures turn { Happens (moment_of B.Bank.count B.Bank.means self.old) (makes groups spares result) (moment_of B.Bank.count B.Bank.means self.new) }
-        ensures lawful { is_ok result ≡ true → Lawful (moment_of B.Bank.count B.Bank.means self.new) }
+        ensures bank { self.new.log.bank ≡ self.old.log.bank }
+        ensures made { making self.old.log.ledger.tables (B.Bank.count self.old.log.bank) (B.Bank.means self.old.log.bank) groups spares ≡ made_as result self.new.log.ledger.tables }
+        ensures turn { Happens (moment_of B.Bank.count B.Bank.means self.old.log) (makes groups spares result) (moment_of B.Bank.count B.Bank.means self.new.log) }
+        ensures lawful { is_ok result ≡ true → Lawful (moment_of B.Bank.count B.Bank.means self.new.log) }
     {
-        let Some(shape) = self.decide(groups, spares) else {
+        let Some(shape) = self.log.decide(groups, spares) else {
             return Err(Fault::new(Layer::Log, Refusal::Shape));
         };
-        self.ledger = Ledger::new(shape);
+        self.log.ledger = Ledger::new(shape);
         Ok(shape.capacity())
     }
 }

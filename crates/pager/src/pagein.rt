@@ -9,7 +9,7 @@ ghost use Rattle.server.specs.Calls.{Left, filled};
 ghost use Rattle.std.specs.Prelude.{◌≡◌, length};
 
 use crate::Pager;
-use crate::reading::read;
+use crate::log::Log;
 use bank::Bank;
 use page::{Fault, Layer, Refusal};
 use parity_log::PageState;
@@ -23,11 +23,12 @@ pub fn lost(page: usize, group: usize, missing: u16) -> Fault
         .in_group(group, missing)
 }
 
-impl<B: Bank> Pager<B> {
+impl<B: Bank> Log<B> {
     // The call, once nothing is objected to.
     fn pagein_admitted(&mut self, page: usize, buffer: &mut [u8]) -> Result<(), Fault>
-        requires { (Ordered B.Bank.order B.Bank.count B.Bank.means self.old) × (Admitted self.old.ledger.tables page (length buffer.old)) }
-        ensures order { Ordered B.Bank.order B.Bank.count B.Bank.means self.new }
+        requires order { Ordered B.Bank.count B.Bank.means self.old }
+        requires admitted { Admitted self.old.ledger.tables page (length buffer.old) }
+        ensures order { Ordered B.Bank.count B.Bank.means self.new }
         ensures ran { Ends B.Bank.steps (pagein_rule self.old.ledger.tables page (length buffer.old)) self.old.bank (filled result buffer.new) self.new.bank }
         ensures tables { self.new.ledger ≡ self.old.ledger }
         ensures left { Left result buffer.old buffer.new }
@@ -37,25 +38,22 @@ impl<B: Bank> Pager<B> {
         match state {
             PageState::NotOut => Err(Fault::new(Layer::Log, Refusal::None).of_page(page)),
             PageState::Lost { group, missing } => Err(lost(page, group, missing)),
-            PageState::Out { group, position } => {
-                match read(&mut self.bank, &self.ledger.tables, group, position, buffer) {
-                    Ok(_) => Ok(()),
-                    Err(missing) => Err(lost(page, group, missing)),
-                }
-            }
+            PageState::Out { group, position } => self
+                .read(group, position, buffer)
+                .map_err(|missing| lost(page, group, missing)),
         }
     }
+}
 
+impl<B: Bank> Pager<B> {
     // Reads a page into the buffer. A page that can't be read now stays out: its servers may come back.
     pub fn pagein(&mut self, page: usize, buffer: &mut [u8]) -> Result<(), Fault>
-        requires { Ordered B.Bank.order B.Bank.count B.Bank.means self.old }
-        ensures order { Ordered B.Bank.order B.Bank.count B.Bank.means self.new }
-        ensures ran { Ends B.Bank.steps (pagein_rule self.old.ledger.tables page (length buffer.old)) self.old.bank (filled result buffer.new) self.new.bank }
-        ensures tables { self.new.ledger ≡ self.old.ledger }
+        ensures ran { Ends B.Bank.steps (pagein_rule self.old.log.ledger.tables page (length buffer.old)) self.old.log.bank (filled result buffer.new) self.new.log.bank }
+        ensures tables { self.new.log.ledger ≡ self.old.log.ledger }
         ensures left { Left result buffer.old buffer.new }
-        ensures turn { Turns (moment_of B.Bank.count B.Bank.means self.old) (λ fs. pages_in page (length buffer.old) (filled result buffer.new) fs) (moment_of B.Bank.count B.Bank.means self.new) }
+        ensures turn { Turns (moment_of B.Bank.count B.Bank.means self.old.log) (λ fs. pages_in page (length buffer.old) (filled result buffer.new) fs) (moment_of B.Bank.count B.Bank.means self.new.log) }
     {
-        self.ledger.tables.admit(page, buffer.len())?;
-        self.pagein_admitted(page, buffer)
+        self.log.ledger.tables.admit(page, buffer.len())?;
+        self.log.pagein_admitted(page, buffer)
     }
 }

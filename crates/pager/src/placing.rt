@@ -1,37 +1,33 @@
-ghost use Rattle.std.specs.Prelude.{◌≡◌, ◌+◌, ◌<◌, ◌≤◌, length};
-ghost use Rattle.parity_log.specs.Owners.{Changes, Linked};
+ghost use Rattle.std.specs.Prelude.{◌≡◌, ◌+◌, ◌<◌, ◌≤◌, is_ok, length};
+ghost use Rattle.parity_log.specs.Owners.{Changes};
 ghost use Rattle.parity_log.specs.Paging.{Placed, close_full, closed_full, free_on, place as place_rule, placed, release as release_rule, release_old, released_old};
 ghost use Rattle.parity_log.specs.Rule.{Ends};
 ghost use Rattle.parity_log.specs.Tables.{with_state};
 ghost use Rattle.parity_log.specs.declared.records.GroupState.TheVariants.{Free};
 ghost use Rattle.parity_log.specs.declared.records.PageState.TheVariants.{Out};
 ghost use Rattle.parity_log.specs.declared.records.Tables.{Tables as LogTables};
-ghost use Rattle.pager.specs.Reads.{Limited};
 ghost use Rattle.pager.specs.Places.{Fit, placed_as};
 ghost use Rattle.std.specs.List.{range_with_len};
 
-use crate::Pager;
+use crate::log::Log;
 use bank::Bank;
-use page::PAGE_SIZE;
+use page::{Fault, PAGE_SIZE};
 use parity_log::PageState;
 
 // Frees a group's slot on every server, the parity server last.
 fn free_slots<B: Bank>(bank: &mut B, servers: usize, group: usize)
-    requires { (B.Bank.order bank.old) × (servers ≤ 8) }
-    ensures order { B.Bank.order bank.new }
-    ensures ran { (v : LogTables) → Ends B.Bank.steps (free_on (range_with_len 0 (servers + 1)) group v) bank.old v bank.new }
+    requires { servers ≤ 8 }
+    ensures { (v : LogTables) → Ends B.Bank.steps (free_on (range_with_len 0 (servers + 1)) group v) bank.old v bank.new }
 {
     for server in 0..servers + 1 {
         let _ = bank.free(server, group);
     }
 }
 
-impl<B: Bank> Pager<B> {
+impl<B: Bank> Log<B> {
     // A group becomes free.
     pub(crate) fn release(&mut self, group: usize)
-        requires { (B.Bank.order self.old.bank) × ((group < 32) × ((self.old.ledger.tables.shape.servers ≤ 8) × (Linked self.old.ledger))) }
-        ensures order { B.Bank.order self.new.bank }
-        ensures linked { Linked self.new.ledger }
+        requires { group < 32 }
         ensures tables { self.new.ledger.tables ≡ with_state self.old.ledger.tables group Free }
         ensures ran { Ends B.Bank.steps (release_rule self.old.ledger.tables group) self.old.bank self.new.ledger.tables self.new.bank }
     {
@@ -41,9 +37,7 @@ impl<B: Bank> Pager<B> {
 
     // A group that a page left becomes free if it is closed and nothing in it is live.
     pub(crate) fn release_old(&mut self, old: Option<usize>)
-        requires { (B.Bank.order self.old.bank) × ((Fit old) × ((self.old.ledger.tables.shape.servers ≤ 8) × (Linked self.old.ledger))) }
-        ensures order { B.Bank.order self.new.bank }
-        ensures linked { Linked self.new.ledger }
+        requires { Fit old }
         ensures tables { self.new.ledger.tables ≡ released_old old self.old.ledger.tables }
         ensures ran { Ends B.Bank.steps (release_old old self.old.ledger.tables) self.old.bank self.new.ledger.tables self.new.bank }
     {
@@ -56,9 +50,7 @@ impl<B: Bank> Pager<B> {
 
     // A full group's parity is put, whether or not that is done, and the group is closed.
     pub(crate) fn close_full(&mut self, group: usize)
-        requires { (B.Bank.order self.old.bank) × ((group < 32) × (Linked self.old.ledger)) }
-        ensures order { B.Bank.order self.new.bank }
-        ensures linked { Linked self.new.ledger }
+        requires { group < 32 }
         ensures tables { self.new.ledger.tables ≡ closed_full self.old.ledger.tables group }
         ensures ran { Ends B.Bank.steps (close_full self.old.ledger.tables group) self.old.bank self.new.ledger.tables self.new.bank }
     {
@@ -69,19 +61,23 @@ impl<B: Bank> Pager<B> {
         }
     }
 
-    // Puts a page at the next position of the open group; whether that was done.
-    pub(crate) fn place(&mut self, group: usize, page: usize, bytes: &[u8; PAGE_SIZE]) -> bool
-        requires { (B.Bank.order self.old.bank) × ((self.old.ledger.tables.filled < 8) × (Changes self.old.ledger page (Out group self.old.ledger.tables.filled))) }
-        ensures order { B.Bank.order self.new.bank }
-        ensures linked { Linked self.new.ledger }
+    // Puts a page at the next position of the open group, and hands up the put's answer; the page is out there all the same.
+    pub(crate) fn place(
+        &mut self,
+        group: usize,
+        page: usize,
+        bytes: &[u8; PAGE_SIZE],
+    ) -> Result<(), Fault>
+        requires room { self.old.ledger.tables.filled < self.old.ledger.tables.shape.servers }
+        requires changes { Changes self.old.ledger.tables page (Out group self.old.ledger.tables.filled) }
         ensures tables { self.new.ledger.tables ≡ placed self.old.ledger.tables group page bytes.now }
-        ensures ran { Ends B.Bank.steps (place_rule self.old.ledger.tables group page bytes.now) self.old.bank (placed_as result self.new.ledger.tables) self.new.bank }
+        ensures ran { Ends B.Bank.steps (place_rule self.old.ledger.tables group page bytes.now) self.old.bank (placed_as (is_ok result) self.new.ledger.tables) self.new.bank }
     {
         let position = self.ledger.tables.filled;
-        let answer = self.bank.put(position, group, bytes);
+        let done = self.bank.put(position, group, bytes);
         self.ledger
             .set_page(page, PageState::Out { group, position });
         self.ledger.add(bytes);
-        answer.is_ok()
+        done
     }
 }

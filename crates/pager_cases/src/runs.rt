@@ -1,144 +1,150 @@
-ghost use Rattle.pager.specs.Order.{Ordered};
-ghost use Rattle.std.specs.Prelude.{◌≡◌, length};
-
+use crate::shapes::Shape;
 use bank::{Bank, End, Pair};
+use fickle::Draws;
 use memory::Memory;
 use page::{Fault, PAGE_SIZE, Page};
 use pager::Pager;
-use server::PageServer;
+use std::fmt;
+use std::num::Saturating;
 
 const MEMORY: usize = 16384;
 
 const PAGES: usize = 16;
 
 // What each page should be, and what the calls came to.
-#[derive(Drop)]
+#[derive(Default, Drop)]
 struct Tally {
     book: [Option<u8>; PAGES],
-    outs: u32,
-    frees: u32,
-    equal: u32,
-    none: u32,
-    wrong: u32,
+    outs: Saturating<u32>,
+    frees: Saturating<u32>,
+    equal: Saturating<u32>,
+    none: Saturating<u32>,
+    wrong: Saturating<u32>,
 }
 
 impl Tally {
-    fn new() -> Tally {
-        Tally {
-            book: [None; PAGES],
-            outs: 0,
-            frees: 0,
-            equal: 0,
-            none: 0,
-            wrong: 0,
-        }
-    }
-
-    // Counts one pagein, by what the book has.
-    fn judge(&mut self, page: usize, bytes: &[u8; PAGE_SIZE], delivered: bool) {
-        let expected = if page < PAGES { self.book[page] } else { None };
-        match (expected, delivered) {
-            (Some(value), true) => {
-                if same(&Page::of_value(value).0, bytes) {
-                    self.equal = self.equal.saturating_add(1);
-                } else {
-                    self.wrong = self.wrong.saturating_add(1);
-                }
-            }
-            (None, false) => self.none = self.none.saturating_add(1),
-            _ => self.wrong = self.wrong.saturating_add(1),
-        }
+    fn booked(&self, page: usize) -> Option<u8> {
+        *self.book.get(page)?
     }
 
     fn note(&mut self, page: usize, value: Option<u8>) {
-        if page < PAGES {
-            self.book[page] = value;
+        if let Some(booked) = self.book.get_mut(page) {
+            *booked = value;
         }
     }
-}
 
-fn same(a: &[u8; PAGE_SIZE], b: &[u8; PAGE_SIZE]) -> bool {
-    for (j, byte) in a.iter().enumerate() {
-        if *byte != b[j] {
-            return false;
+    fn paged_out(&mut self, page: usize, value: u8) {
+        self.note(page, Some(value));
+        self.outs += 1;
+    }
+
+    // Counts one pagein, by what the book has.
+    fn paged_in(&mut self, page: usize, delivered: Option<&[u8; PAGE_SIZE]>) {
+        match (self.booked(page), delivered) {
+            (Some(value), Some(bytes)) if Page::of_value(value).0 == *bytes => { self.equal += 1 }
+            (None, None) => self.none += 1,
+            _ => self.wrong += 1,
         }
     }
-    true
-}
 
-// The next number of a fixed sequence.
-fn draw(seed: &mut u32) -> u32 {
-    *seed = seed.wrapping_mul(1664525).wrapping_add(1013904223);
-    *seed >> 16
+    fn freed(&mut self, page: usize) {
+        self.note(page, None);
+        self.frees += 1;
+    }
 }
 
 // One call, drawn from the sequence.
-fn call<B: Bank>(pager: &mut Pager<B>, seed: &mut u32, tally: &mut Tally) -> Result<(), Fault>
-    requires { Ordered B.Bank.order B.Bank.count B.Bank.means pager.old }
-    ensures { Ordered B.Bank.order B.Bank.count B.Bank.means pager.new }
-{
-    let kind = draw(seed) % 8;
-    let page = draw(seed) as usize % PAGES;
-    if kind < 4 {
-        let value = (draw(seed) % 256) as u8;
-        pager.pageout(page, &Page::of_value(value).0)?;
-        tally.note(page, Some(value));
-        tally.outs = tally.outs.saturating_add(1);
-    } else if kind < 7 {
-        let mut buffer = [0; PAGE_SIZE];
-        let delivered = pager.pagein(page, &mut buffer).is_ok();
-        tally.judge(page, &buffer, delivered);
-    } else {
-        pager.free(page)?;
-        tally.note(page, None);
-        tally.frees = tally.frees.saturating_add(1);
+fn call<B: Bank>(pager: &mut Pager<B>, draws: &mut Draws, tally: &mut Tally) -> Result<(), Fault> {
+    let kind = draws.below(8);
+    let page = draws.below(PAGES as u32) as usize;
+    match kind {
+        0..=3 => {
+            let value = draws.below(256) as u8;
+            pager.pageout(page, &Page::of_value(value).0)?;
+            tally.paged_out(page, value);
+        }
+        4..=6 => {
+            let mut buffer = [0; PAGE_SIZE];
+            let done = pager.pagein(page, &mut buffer).ok();
+            tally.paged_in(page, done.map(|()| &buffer));
+        }
+        _ => {
+            pager.free(page)?;
+            tally.freed(page);
+        }
     }
     Ok(())
 }
 
-fn calls<B: Bank>(pager: &mut Pager<B>, tally: &mut Tally) -> Result<(), Fault>
-    requires { Ordered B.Bank.order B.Bank.count B.Bank.means pager.old }
-    ensures { Ordered B.Bank.order B.Bank.count B.Bank.means pager.new }
-{
-    let mut seed = 1;
+fn calls<B: Bank>(pager: &mut Pager<B>, tally: &mut Tally) -> Result<(), Fault> {
+    let mut draws = Draws::new(1);
     for _ in 0..4000 {
-        call(pager, &mut seed, tally)?;
+        call(pager, &mut draws, tally)?;
     }
     Ok(())
 }
 
-// Four data servers and a parity server, the second of them from this era on.
-fn over_five(tally: &mut Tally, groups: usize, spares: usize, era: u32) -> Result<(), Fault> {
-    let mut a = [0u8; MEMORY];
-    let mut b = [0u8; MEMORY];
-    let mut c = [0u8; MEMORY];
-    let mut d = [0u8; MEMORY];
-    let mut e = [0u8; MEMORY];
-    let rest = Pair(
-        Memory::new(&mut c, 0),
-        Pair(Memory::new(&mut d, 0), Pair(Memory::new(&mut e, 0), End)),
-    );
-    let mut pager = Pager::new(Pair(Memory::new(&mut a, 0), Pair(Memory::new(&mut b, era), rest)));
-    let _capacity = pager.make(groups, spares)?;
-    calls(&mut pager, tally)
+// How a pager over four data servers is made, the second of them from this era on.
+#[derive(Clone, Copy)]
+struct Run {
+    shape: Shape,
+    era: u32,
 }
 
-pub fn all(rt: &HostRuntime) -> anyhow::Result<()> {
-    for (groups, spares, era) in [(6usize, 2usize, 0u32), (8, 4, 0), (6, 2, u32::MAX)] {
-        let mut tally = Tally::new();
-        over_five(&mut tally, groups, spares, era)?;
+impl Run {
+    fn over_five(self) -> Result<Report, Fault> {
+        let mut a = [0u8; MEMORY];
+        let mut b = [0u8; MEMORY];
+        let mut c = [0u8; MEMORY];
+        let mut d = [0u8; MEMORY];
+        let mut e = [0u8; MEMORY];
+        let second = Memory::new(&mut b, self.era);
+        let rest = Pair(
+            Memory::new(&mut c, 0),
+            Pair(Memory::new(&mut d, 0), Pair(Memory::new(&mut e, 0), End)),
+        );
+        let mut pager = Pager::new(Pair(Memory::new(&mut a, 0), Pair(second, rest)));
+        self.shape.make(&mut pager)?;
+        let mut tally = Tally::default();
+        calls(&mut pager, &mut tally)?;
+        Ok(Report { run: self, tally })
+    }
+}
+
+// What a run came to, as a person reads it.
+#[derive(Drop)]
+struct Report {
+    run: Run,
+    tally: Tally,
+}
+
+impl fmt::Display for Report {
+    fn fmt<W: fmt::Write>(&self, f: &mut fmt::Formatter<W>) -> fmt::Result {
+        let Run { shape, era } = self.run;
         let Tally {
-            book: _,
             outs,
             frees,
             equal,
             none,
             wrong,
-        } = tally;
-        println!(rt;
-            "G {groups}, q {spares}, server 1 at era {era}: {outs} pageouts, {frees} frees"
+            ..
+        } = self.tally;
+        writeln!(
+            f,
+            "{shape}, server 1 at era {era}: {outs} pageouts, {frees} frees"
         )?;
-        println!(rt; "  pageins: {equal} as booked, {none} of pages not out, {wrong} wrong")?;
+        write!(
+            f,
+            "  pageins: {equal} as booked, {none} of pages not out, {wrong} wrong"
+        )
+    }
+}
+
+pub fn all(rt: &HostRuntime) -> anyhow::Result<()> {
+    for (groups, spares, era) in [(6usize, 2usize, 0u32), (8, 4, 0), (6, 2, u32::MAX)] {
+        let shape = Shape { groups, spares };
+        let report = Run { shape, era }.over_five()?;
+        rt.println(report)?;
     }
     Ok(())
 }

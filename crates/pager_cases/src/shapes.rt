@@ -2,65 +2,102 @@ use bank::{Bank, End, Pair};
 use memory::Memory;
 use page::Fault;
 use pager::Pager;
+use std::fmt;
 
 // Sixteen kibibytes: 32 slots.
 const MEMORY: usize = 16384;
 
-fn make<B: Bank + Drop>(bank: B, groups: usize, spares: usize) -> Result<usize, Fault>
-    requires { B.Bank.order bank }
-{
-    let mut pager = Pager::new(bank);
-    pager.make(groups, spares)
+// How many groups a pager has, and how many of them are spare.
+#[derive(Clone, Copy)]
+pub struct Shape {
+    pub groups: usize,
+    pub spares: usize,
 }
 
-fn show(
-    rt: &HostRuntime,
-    servers: usize,
-    groups: usize,
-    spares: usize,
-    made: Result<usize, Fault>,
-) -> anyhow::Result<()> {
-    match made {
-        Ok(capacity) => println!(rt; "S {servers}, G {groups}, q {spares}: {capacity} pages")?,
-        Err(fault) => println!(rt; "S {servers}, G {groups}, q {spares}: {fault}")?,
+const SMALLEST: Shape = Shape {
+    groups: 3,
+    spares: 2,
+};
+
+impl Shape {
+    pub fn make<B: Bank>(self, pager: &mut Pager<B>) -> Result<usize, Fault> {
+        pager.make(self.groups, self.spares)
     }
-    Ok(())
+}
+
+impl fmt::Display for Shape {
+    fn fmt<W: fmt::Write>(&self, f: &mut fmt::Formatter<W>) -> fmt::Result {
+        let Shape { groups, spares } = *self;
+        write!(f, "G {groups}, q {spares}")
+    }
+}
+
+// How many pages a pager of this shape has room for over so many data servers, or why none is made.
+#[derive(Clone, Copy)]
+struct Made {
+    servers: usize,
+    shape: Shape,
+    capacity: Result<usize, Fault>,
+}
+
+impl fmt::Display for Made {
+    fn fmt<W: fmt::Write>(&self, f: &mut fmt::Formatter<W>) -> fmt::Result {
+        let Made { servers, shape, .. } = *self;
+        write!(f, "S {servers}, {shape}: ")?;
+        match self.capacity {
+            Ok(pages) => write!(f, "{pages} pages"),
+            Err(fault) => write!(f, "{fault}"),
+        }
+    }
+}
+
+// The last server of the bank is the parity server.
+fn make<B: Bank + Drop>(bank: B, shape: Shape) -> Made {
+    let servers = bank.servers().saturating_sub(1);
+    let capacity = shape.make(&mut Pager::new(bank));
+    Made {
+        servers,
+        shape,
+        capacity,
+    }
 }
 
 pub fn all(rt: &HostRuntime) -> anyhow::Result<()> {
-    two(rt)?;
-    three(rt)?;
+    rt.println(two())?;
+    rt.println(three())?;
     five(rt)?;
-    unequal(rt)?;
-    ten(rt)
+    println!(rt; "with a parity server of two slots:")?;
+    rt.println(unequal())?;
+    rt.println(ten())?;
+    Ok(())
 }
 
-fn two(rt: &HostRuntime) -> anyhow::Result<()> {
+fn two() -> Made {
     let mut a = [0u8; MEMORY];
     let mut b = [0u8; MEMORY];
     let bank = Pair(Memory::new(&mut a, 0), Pair(Memory::new(&mut b, 0), End));
-    show(rt, 1, 3, 2, make(bank, 3, 2))
+    make(bank, SMALLEST)
 }
 
-fn three(rt: &HostRuntime) -> anyhow::Result<()> {
+// A bank of three memory servers over these bytes.
+fn make_over_three(a: &mut [u8], b: &mut [u8], c: &mut [u8], shape: Shape) -> Made {
+    let rest = Pair(Memory::new(b, 0), Pair(Memory::new(c, 0), End));
+    make(Pair(Memory::new(a, 0), rest), shape)
+}
+
+fn three() -> Made {
     let mut a = [0u8; MEMORY];
     let mut b = [0u8; MEMORY];
     let mut c = [0u8; MEMORY];
-    let bank = Pair(
-        Memory::new(&mut a, 0),
-        Pair(Memory::new(&mut b, 0), Pair(Memory::new(&mut c, 0), End)),
-    );
-    show(rt, 2, 32, 31, make(bank, 32, 31))
+    let shape = Shape {
+        groups: 32,
+        spares: 31,
+    };
+    make_over_three(&mut a, &mut b, &mut c, shape)
 }
 
 // Five servers before the rest of a bank.
-fn make_over_five_more<B: Bank + Drop>(
-    rest: B,
-    groups: usize,
-    spares: usize,
-) -> Result<usize, Fault>
-    requires { B.Bank.order rest }
-{
+fn make_over_five_more<B: Bank + Drop>(rest: B, shape: Shape) -> Made {
     let mut a = [0u8; MEMORY];
     let mut b = [0u8; MEMORY];
     let mut c = [0u8; MEMORY];
@@ -72,8 +109,7 @@ fn make_over_five_more<B: Bank + Drop>(
     );
     make(
         Pair(Memory::new(&mut a, 0), Pair(Memory::new(&mut b, 0), last)),
-        groups,
-        spares,
+        shape,
     )
 }
 
@@ -91,31 +127,20 @@ fn five(rt: &HostRuntime) -> anyhow::Result<()> {
         (0, 0),
         (usize::MAX, 2),
     ] {
-        show(
-            rt,
-            4,
-            groups,
-            spares,
-            make_over_five_more(End, groups, spares),
-        )?;
+        rt.println(make_over_five_more(End, Shape { groups, spares }))?;
     }
     Ok(())
 }
 
 // The parity server has two slots only.
-fn unequal(rt: &HostRuntime) -> anyhow::Result<()> {
+fn unequal() -> Made {
     let mut a = [0u8; MEMORY];
     let mut b = [0u8; MEMORY];
     let mut c = [0u8; 1024];
-    let bank = Pair(
-        Memory::new(&mut a, 0),
-        Pair(Memory::new(&mut b, 0), Pair(Memory::new(&mut c, 0), End)),
-    );
-    println!(rt; "with a parity server of two slots:")?;
-    show(rt, 2, 3, 2, make(bank, 3, 2))
+    make_over_three(&mut a, &mut b, &mut c, SMALLEST)
 }
 
-fn ten(rt: &HostRuntime) -> anyhow::Result<()> {
+fn ten() -> Made {
     let mut a = [0u8; 1536];
     let mut b = [0u8; 1536];
     let mut c = [0u8; 1536];
@@ -126,5 +151,5 @@ fn ten(rt: &HostRuntime) -> anyhow::Result<()> {
         Pair(Memory::new(&mut d, 0), Pair(Memory::new(&mut e, 0), End)),
     );
     let five = Pair(Memory::new(&mut a, 0), Pair(Memory::new(&mut b, 0), last));
-    show(rt, 9, 3, 2, make_over_five_more(five, 3, 2))
+    make_over_five_more(five, SMALLEST)
 }

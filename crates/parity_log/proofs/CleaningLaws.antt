@@ -30,7 +30,7 @@ pub clean_group : (v : Tables) (g c i : ℕ) → Cleaning v g c i → (c < v.sha
 clean_group v g c i cleaning = (closed_below v cleaning.sound c cleaning.closed, open_below v cleaning.sound g cleaning.open_now)
 
 apart : (v : Tables) (g c i : ℕ) → Cleaning v g c i → g ≡ c → ⊥
-apart v g c i cleaning same = let a = ap (state_of v) (sym same) ∙ cleaning.open_now in let b = cleaning.closed in let z : ◌≡◌ {A = ℕ} 0 1 = cc in omega arith
+apart v g c i cleaning same = let a = ap (state_of v) (sym same) ∙ cleaning.open_now in let b = cleaning.closed in cc
 
 -- a live position ahead, moved
 one_ahead : (v : Tables) (g c i p : ℕ) → Cleaning v g c i → i < v.shape.servers → page_at v.pages c i ≡ Some p → v.filled + 1 + ahead v.pages c (i + 1) v.shape.servers < v.shape.servers
@@ -84,7 +84,7 @@ clean_place v g c i p x cleaning l e =
 
 pub clean_lose : (v : Tables) (g c i p m : ℕ) → Cleaning v g c i → i < v.shape.servers → page_at v.pages c i ≡ Some p → Cleaning (with_page v p (Lost c m)) g c (i + 1)
 clean_lose v g c i p m cleaning l e =
-    clean_entered v g c i p (Lost c m) v.filled v.parity cleaning l e (λ j f. let z : ◌≡◌ {A = ℕ} 0 1 = cc in omega arith) (omega arith) (omega arith) (puts_nowhere v p (Lost c m) v.filled (λ h j f. let z : ◌≡◌ {A = ℕ} 0 1 = cc in omega arith))
+    clean_entered v g c i p (Lost c m) v.filled v.parity cleaning l e (λ j f. cc) (omega arith) (omega arith) (puts_nowhere v p (Lost c m) v.filled (λ h j f. cc))
 
 pub clean_end : (v : Tables) (g c : ℕ) → Cleaning v g c v.shape.servers → Settled (with_state v c Free) × (state_of (with_state v c Free) g ≡ Open)
 clean_end v g c cleaning =
@@ -98,7 +98,7 @@ clean_end v g c cleaning =
         none_open = λ n. absurd (not_none (with_state v c Free) sound g now n);
         spare = free_freed v c before below;
         used = λ h e. ⊎_elim
-            (λ own. let f = own.1 in let z : ◌≡◌ {A = ℕ} 0 1 = cc in absurd (omega arith))
+            (λ own. let f = own.1 in absurd (cc))
             (λ old. cleaning.used h old.1 old.0) (entry_cases Free v.states c Free (state_room v before c below) h Closed e);
       },
       now,

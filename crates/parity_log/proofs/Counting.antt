@@ -2,7 +2,7 @@
 use Rattle.std.proofs.Common.{◌≡◌, ℕ, zero, suc, ◌+◌, ◌*◌, ◌<◌, ◌≤◌, Bool, true, false, cond, ◌&&◌, eqb, leb, List, [], ◌∷◌, length, get_or, is_some, sum_by, count_by, ap, suc-mul, arith}
 use Rattle.std.specs.List.{range_with_len, AllByRecursion as All}
 use Rattle.std.proofs.ByRecursion.{all_from_every}
-use Rattle.std.proofs.lemmas.List.Sums.{sum_by-cons, count_by-le-length}
+use Rattle.std.proofs.lemmas.List.Sums.{sum_by-cons, sum_by-le-sum_by, count_by-le-length}
 use Rattle.std.proofs.lemmas.Bool.{le-leb}
 use Rattle.std.proofs.lemmas.Bool.Decides.{nat_tests}
 use Rattle.parity_log.specs.declared.records.PageState.{PageState}
@@ -20,9 +20,6 @@ module _ {X : Type 0} where
   pub sum_by_both : (f j k : X → ℕ) (xs : List X) → All (λ x. f x ≤ j x + k x) xs → sum_by f xs ≤ sum_by j xs + sum_by k xs
   sum_by_both f j k [] h = omega arith
   sum_by_both f j k (x ∷ xs) h = omega (arith, h.0, sum_by_both f j k xs h.1, sum_by-cons f x xs, sum_by-cons j x xs, sum_by-cons k x xs)
-
-  sum_by_mono : (f k : X → ℕ) (xs : List X) → ((x : X) → f x ≤ k x) → sum_by f xs ≤ sum_by k xs
-  sum_by_mono f k xs h = omega (arith, sum_by_both f k (λ _. 0) xs (all_from_every _ xs (λ i d _ _. omega (arith, h (get_or xs i d)))), sum_by_same 0 xs)
 
 -- where each y is counted by at most k y of the x, all the counts together are at most the sum of k
 module _ {X Y : Type 0} (passes : X → Y → Bool) (k : Y → ℕ) (xs : List X) (few : (y : Y) → count_by (λ x. passes x y) xs ≤ k y) where
@@ -79,7 +76,7 @@ module _ (g : ℕ) where
   unfolding page_at live_count
   live_within_out n pages = omega (
     arith,
-    sum_by_mono (λ i. cond (is_some (page_from 0 pages g i)) 1 0) (λ i. count_by (λ s. names s g i) pages) (range_with_len 0 n) (named 0 pages),
+    sum_by-le-sum_by (λ i. cond (is_some (page_from 0 pages g i)) 1 0) (λ i. count_by (λ s. names s g i) pages) (range_with_len 0 n) (named 0 pages),
     counted_twice (λ i s. names s g i) (λ s. cond (out_in g s) 1 0) (range_with_len 0 n) (one_position n) pages,
   )
 
@@ -94,7 +91,7 @@ live_within_capacity v sound =
     let groups = range_with_len 0 v.shape.groups in
     omega (
       arith,
-      sum_by_mono (live v) (λ g. count_by (out_in g) v.pages) groups (λ g. live_within_out g v.shape.servers v.pages),
+      sum_by-le-sum_by (live v) (λ g. count_by (out_in g) v.pages) groups (λ g. live_within_out g v.shape.servers v.pages),
       counted_twice out_in (λ s. cond (is_some (group_of s)) 1 0) groups (one_group v.shape.groups) v.pages,
       count_front (λ s. is_some (group_of s)) NotOut v.pages (capacity v.shape) (λ p l. ap (λ s. is_some (group_of s)) (sound.numbered p l)),
     )

@@ -16,13 +16,13 @@ none_from None h = refl
 none_from (Some k) h = absurd (h k refl)
 
 out_from : (n : ℕ) (xs : List PageState) (g i p : ℕ) → page_from n xs g i ≡ Some p → (q : ℕ) × (n + q ≡ p) × (get_or xs q NotOut ≡ Out g i)
-out_from n [] g i p e = let z : ◌≡◌ {A = ℕ} 0 1 = cc in absurd (omega arith)
+out_from n [] g i p e = absurd (cc)
 out_from n (x ∷ xs) g i p e = cond_both (names x g i) (Some n) (page_from (n + 1) xs g i) (λ o. o ≡ Some p → (q : ℕ) × (n + q ≡ p) × (get_or (x ∷ xs) q NotOut ≡ Out g i))
     (λ t z. let same : n ≡ p = cc in (0, omega arith, names_out x g i t))
     (λ _ z. let r = out_from (n + 1) xs g i p z in (suc r.0, omega (arith, r.1), r.2)) e
 
 named_from : (n : ℕ) (xs : List PageState) (g i q : ℕ) → get_or xs q NotOut ≡ Out g i → is_some (page_from n xs g i) ≡ true
-named_from n [] g i q e = let z : ◌≡◌ {A = ℕ} 0 1 = cc in absurd (omega arith)
+named_from n [] g i q e = absurd (cc)
 named_from n (x ∷ xs) g i zero e = rw (out_names x g i e) refl
 named_from n (x ∷ xs) g i (suc q) e = cond_both (names x g i) (Some n) (page_from (n + 1) xs g i) (λ o. is_some o ≡ true) (λ _. refl) (λ _. named_from (n + 1) xs g i q e)
 

@@ -39,7 +39,7 @@ module _ (v : Tables) (g : ℕ) (leaving : Leaving v (Some g)) where
         sound = sound_freed v g sound closed (λ p i e. omega (arith, none, live_out v.pages g i v.shape.servers p (rw closed at (sound.placed p g i e).1) e));
         spare = free_freed v g sound below;
         used = λ h e _. ⊎_elim
-            (λ own. let f = own.1 in let z : ◌≡◌ {A = ℕ} 0 1 = cc in absurd (omega arith))
+            (λ own. let f = own.1 in absurd (cc))
             (λ old. leaving.used h old.1 (λ z. old.0 (cc))) (entry_cases Free v.states g Free (state_room v sound g below) h Closed e);
       }
 
@@ -67,7 +67,7 @@ release_open v (Some h) g e = cond_both (unused v h) (with_state v h Free) v (λ
     (λ t. entry_other Free v.states h Free g (λ same.
     let c = closed_from (state_of v h) (and_parts (is_closed (state_of v h)) (eqb (live v h) 0) t).0 in
     let o = ap (state_of v) (sym same) ∙ e in
-    let z : ◌≡◌ {A = ℕ} 0 1 = cc in omega arith) ∙ e)
+    cc) ∙ e)
     (λ _. e)
 
 -- a release changes only a group's state
@@ -77,7 +77,7 @@ release_same v (Some g) = cond_both (unused v g) (with_state v g Free) v (λ w. 
     (λ _. (refl, refl, refl, refl, refl)) (λ _. (refl, refl, refl, refl, refl))
 
 used_all : (v : Tables) → Leaving v None → (g : ℕ) → state_of v g ≡ Closed → 1 ≤ live v g
-used_all v leaving g e = leaving.used g e (λ n. let z : ◌≡◌ {A = ℕ} 0 1 = cc in omega arith)
+used_all v leaving g e = leaving.used g e (λ n. cc)
 
 pub close_settles : (v : Tables) (g p : ℕ) → Leaving v None → state_of v g ≡ Open → 1 ≤ v.filled → page_state v p ≡ Out g (v.filled - 1) → Settled (closed_full v g)
 close_settles v g p leaving o some at = cond_both (eqb v.filled v.shape.servers) (shut v g) v Settled full (λ f. record {
@@ -107,14 +107,14 @@ close_settles v g p leaving o some at = cond_both (eqb v.filled v.shape.servers)
           sound = sound_restated v g Closed v.last 0 (record { 0 = zeros }) sound below (record {
             own = λ q i e. omega (arith, rw o at (sound.placed q g i e).1);
             others = same_positions;
-            own_open = λ z. let y : ◌≡◌ {A = ℕ} 0 1 = cc in absurd (omega arith);
+            own_open = λ z. absurd (cc);
             others_open = λ h _ e. sound.only_open h e;
             last = sound.last;
             filled = omega arith;
           });
           room = omega arith;
           none_open = λ _. (refl, refl);
-          spare = omega (arith, leaving.spare, free_kept v g Closed v.last 0 (record { 0 = zeros }) (λ f. let z : ◌≡◌ {A = ℕ} 0 1 = cc in omega arith));
+          spare = omega (arith, leaving.spare, free_kept v g Closed v.last 0 (record { 0 = zeros }) (λ f. cc));
           used = λ h e. ⊎_elim
               (λ own. rw own.0 (live_out v.pages g (v.filled - 1) v.shape.servers p (omega arith) at))
               (λ old. used_all v leaving h old.1) (entry_cases Free v.states g Closed (state_room v sound g below) h Closed e);
@@ -140,7 +140,7 @@ leaves_out v p s settled l nowhere =
 pub lose_leaves : (v : Tables) (p g i m : ℕ) → Settled v → p < capacity v.shape → page_state v p ≡ Out g i → Settled (released_old (Some g) (with_page v p (Lost g m)))
 lose_leaves v p g i m settled l e =
     let s : PageState = Lost g m in
-    subst (λ o. Settled (released_old (group_of o) (with_page v p s))) e (leaves_out v p s settled l (λ h j f. let z : ◌≡◌ {A = ℕ} 0 1 = cc in omega arith))
+    subst (λ o. Settled (released_old (group_of o) (with_page v p s))) e (leaves_out v p s settled l (λ h j f. cc))
 
 pub free_leaves : (v : Tables) (p : ℕ) → Settled v → p < capacity v.shape → Settled (released_old (group_of (page_state v p)) (with_page v p NotOut))
-free_leaves v p settled l = leaves_out v p NotOut settled l (λ h j f. let z : ◌≡◌ {A = ℕ} 0 1 = cc in omega arith)
+free_leaves v p settled l = leaves_out v p NotOut settled l (λ h j f. cc)

@@ -1,28 +1,21 @@
 -- The page that the table names at a position, and what a change of one entry makes of it.
 use Rattle.std.proofs.Common.{◌≡◌, ℕ, zero, suc, ◌+◌, ◌<◌, Bool, true, false, cond, ◌&&◌, eqb, ◌≢◌, List, [], ◌∷◌, length, get_or, set, Some, None, sym, refl, ap, ◌∙◌, add-zero, arith, length-set, get_or-set_other, get_or-set_same, eq-eqb, eqb-true}
 use borrow.Author.Tests.{eqb-false}
+use Rattle.std.proofs.lemmas.Bool.{false≢true, false_from_ne_true}
 use Rattle.parity_log.specs.declared.records.PageState.{PageState}
 use Rattle.parity_log.specs.declared.records.PageState.TheVariants.{NotOut, Out, Lost}
 use Rattle.parity_log.specs.Tables.{names, page_from, page_at}
 use Rattle.parity_log.specs.Order.{Once}
 
-clash : {A : Type 0} (b : Bool) → b ≡ true → b ≡ false → A
-clash b p q = let z : ◌≡◌ {A = Bool} true false = sym p ∙ q in let w : ◌≡◌ {A = ℕ} 0 1 = cc in let v : ⊥ = omega arith in absurd v
-
--- a Boolean that is not true is false
-pub not_true : (b : Bool) → (b ≡ true → ⊥) → b ≡ false
-not_true true n = absurd (n refl)
-not_true false n = refl
-
 pub names_out : (s : PageState) (g i : ℕ) → names s g i ≡ true → s ≡ Out g i
-names_out NotOut g i e = clash false e refl
+names_out NotOut g i e = absurd (false≢true e)
 names_out (Out h j) g i e = go (eqb h g) (eqb j i) refl refl e
   where
     go : (a b : Bool) → eqb h g ≡ a → eqb j i ≡ b → (a && b) ≡ true → Out h j ≡ Out g i
     go true true p q _ = let x = eqb-true h g p in let y = eqb-true j i q in cc
-    go true false p q z = clash false z refl
-    go false b p q z = clash false z refl
-names_out (Lost h m) g i e = clash false e refl
+    go true false p q z = absurd (false≢true z)
+    go false b p q z = absurd (false≢true z)
+names_out (Lost h m) g i e = absurd (false≢true e)
 
 pub out_names : (s : PageState) (g i : ℕ) → s ≡ Out g i → names s g i ≡ true
 out_names s g i e = rw e (rw (eq-eqb g g refl) (eq-eqb i i refl))
@@ -72,7 +65,7 @@ module _ (xs : List PageState) (p : ℕ) (s : PageState) (l : p < length xs) whe
         where
           go : (v : Bool) → eqb q p ≡ v → names (get_or (set xs p s) q NotOut) g i ≡ false
           go true e = rw (eqb-true q p e) (at_own g i ∙ f)
-          go false e = let ne = eqb-false q p e in at_other q g i ne ∙ not_true (names (get_or xs q NotOut) g i) (away q ne)
+          go false e = let ne = eqb-false q p e in at_other q g i ne ∙ false_from_ne_true (names (get_or xs q NotOut) g i) (away q ne)
 
   -- any other position
   pub named_as_before : (g i : ℕ) → names s g i ≡ false → names (get_or xs p NotOut) g i ≡ false → page_at (set xs p s) g i ≡ page_at xs g i

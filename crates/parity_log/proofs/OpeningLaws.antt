@@ -33,22 +33,22 @@ initial_settled s h =
         pages = length-replicate 240 NotOut;
         states = length-replicate 32 Free;
         numbered = λ p _. alike NotOut 240 p;
-        placed = λ p g i e. let a = alike NotOut 240 p in let z : ◌≡◌ {A = ℕ} 0 1 = cc in absurd (omega arith);
-        once = λ p q g i e f. let a = alike NotOut 240 p in let z : ◌≡◌ {A = ℕ} 0 1 = cc in absurd (omega arith);
-        only_open = λ g e. let a = alike Free 32 g in let z : ◌≡◌ {A = ℕ} 0 1 = cc in absurd (omega arith);
-        last = λ g e. let z : ◌≡◌ {A = ℕ} 0 1 = cc in absurd (omega arith);
+        placed = λ p g i e. let a = alike NotOut 240 p in absurd (cc);
+        once = λ p q g i e f. let a = alike NotOut 240 p in absurd (cc);
+        only_open = λ g e. let a = alike Free 32 g in absurd (cc);
+        last = λ g e. absurd (cc);
         beyond = λ g _. alike Free 32 g;
         filled = omega arith;
       };
       room = omega arith;
       none_open = λ _. (refl, refl);
       spare = all_free s h;
-      used = λ g e. let a = alike Free 32 g in let z : ◌≡◌ {A = ℕ} 0 1 = cc in absurd (omega arith);
+      used = λ g e. let a = alike Free 32 g in absurd (cc);
     }
 
 -- the first that passes does pass, and has what all have
 first_passes : (test : ℕ → Bool) (P : ℕ → Type 0) (xs : List ℕ) (x : ℕ) → All P xs → first_in test xs ≡ Some x → P x × (test x ≡ true)
-first_passes test P [] x h e = let z : ◌≡◌ {A = ℕ} 0 1 = cc in absurd (omega arith)
+first_passes test P [] x h e = absurd (cc)
 first_passes test P (y ∷ ys) x h e = cond_both (test y) (Some y) (first_in test ys) (λ o. o ≡ Some x → P x × (test x ≡ true))
     (λ t z. let same : y ≡ x = cc in (subst P same h.0, ap test (sym same) ∙ t))
     (λ _ z. first_passes test P ys x h.1 z) e
@@ -89,7 +89,7 @@ module _ (v : Tables) (g : ℕ) (settled : Settled v) (none : open_group v ≡ N
 
   used_opened : (h : ℕ) → state_of (opened v g) h ≡ Closed → 1 ≤ live v h
   used_opened h e = ⊎_elim
-      (λ own. let f = own.1 in let z : ◌≡◌ {A = ℕ} 0 1 = cc in absurd (omega arith))
+      (λ own. let f = own.1 in absurd (cc))
       (λ old. settled.used h old.1) (entry_cases Free v.states g Open (state_room v settled.sound g below) h Closed e)
 
   -- where it is the only free group
@@ -119,7 +119,7 @@ open_next v g settled none next many =
 pub open_last : (v : Tables) (g : ℕ) → Settled v → open_group v ≡ None → next_free v ≡ Some g → free_count v ≤ 1 → (c : ℕ) × (fewest_live v ≡ Some c) × Cleaning (opened v g) g c 0
 open_last v g settled none next few =
     let free = was_free v g settled none next in
-    let hole = pigeonhole v g settled.sound (below v g settled none next) (λ e. let z : ◌≡◌ {A = ℕ} 0 1 = cc in omega arith) (closed_others v g settled none next few) in
+    let hole = pigeonhole v g settled.sound (below v g settled none next) (λ e. cc) (closed_others v g settled none next few) in
     let c = hole.0 in
     let shut = hole.3 in (
       c,
@@ -127,7 +127,7 @@ open_last v g settled none next few =
       record {
         sound = sound_opened v g settled none next;
         open_now = open_now v g settled none next;
-        closed = entry_other Free v.states g Open c (λ e. let f = ap (state_of v) e ∙ free in let z : ◌≡◌ {A = ℕ} 0 1 = cc in omega arith) ∙ shut;
+        closed = entry_other Free v.states g Open c (λ e. let f = ap (state_of v) e ∙ free in cc) ∙ shut;
         moved = λ j l. absurd (omega arith);
         room = rw (live_from v c) (omega (arith, (settled.none_open none).0, hole.4, hole.5));
         used = λ h e _. used_opened v g settled none next h e;

@@ -50,7 +50,7 @@ module _ (v : Tables) (sound : Sound v) where
   state_room g l = let b = shape_bounds v.shape sound.shape in omega arith
 
   pub page_below : (p g i : ℕ) → page_state v p ≡ Out g i → p < capacity v.shape
-  page_below p g i e = ⊎_elim (λ l. l) (λ l. let n = sound.numbered p l in let z : ◌≡◌ {A = ℕ} 0 1 = cc in absurd (omega arith)) (cases_lt p (capacity v.shape))
+  page_below p g i e = ⊎_elim (λ l. l) (λ l. let n = sound.numbered p l in absurd (cc)) (cases_lt p (capacity v.shape))
 
   pub group_below : (g : ℕ) → (state_of v g ≡ Free → ⊥) → g < v.shape.groups
   group_below g n = ⊎_elim (λ l. l) (λ l. absurd (n (sound.beyond g l))) (cases_lt g v.shape.groups)
@@ -59,13 +59,13 @@ module _ (v : Tables) (sound : Sound v) where
   open_below g e = sound.last g (sound.only_open g e)
 
   pub closed_below : (g : ℕ) → state_of v g ≡ Closed → g < v.shape.groups
-  closed_below g e = group_below g (λ f. let z : ◌≡◌ {A = ℕ} 0 1 = cc in omega arith)
+  closed_below g e = group_below g (λ f. cc)
 
   pub open_is : (g : ℕ) → state_of v g ≡ Open → open_group v ≡ Some g
   open_is g e = ap (when_open v) (sound.only_open g e) ∙ ap (λ s. cond (is_open s) (Some g) None) e
 
   pub not_none : (g : ℕ) → state_of v g ≡ Open → open_group v ≡ None → ⊥
-  not_none g e n = let s = open_is g e in let z : ◌≡◌ {A = ℕ} 0 1 = cc in omega arith
+  not_none g e n = let s = open_is g e in cc
 
   -- the position that is filled next is nobody's
   pub next_alone : (p g : ℕ) → state_of v g ≡ Open → page_state v p ≡ Out g v.filled → ⊥
@@ -150,7 +150,7 @@ pub sound_freed : (v : Tables) (g : ℕ) → Sound v → state_of v g ≡ Closed
 sound_freed v g sound e none = sound_restated v g Free v.last v.filled v.parity sound (closed_below v sound g e) (record {
   own = λ p i f. absurd (none p i f);
   others = λ h _. omega arith;
-  own_open = λ z. let y : ◌≡◌ {A = ℕ} 0 1 = cc in absurd (omega arith);
+  own_open = λ z. absurd (cc);
   others_open = λ h _ o. sound.only_open h o;
   last = sound.last;
   filled = sound.filled;

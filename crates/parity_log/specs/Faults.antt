@@ -5,8 +5,13 @@ use Rattle.page.specs.declared.faults.Layer.TheVariants.{Log}
 use Rattle.page.specs.declared.faults.Refusal.{Refusal}
 use Rattle.page.specs.declared.faults.Refusal.TheVariants.{Range, Length, Lost, Shape as BadShape}
 use Rattle.page.specs.Refusals.{fault_of, of_page, in_group}
+use Rattle.parity_log.specs.declared.records.Shape.{Shape}
 use Rattle.parity_log.specs.declared.records.Tables.{Tables}
 use Rattle.parity_log.specs.Tables.{within, capacity}
+
+-- the shape of a pager that was made
+abbrev pub made_shape : Tables → Result Shape Fault
+made_shape v = cond (within v.shape) (Ok v.shape) (Err (fault_of Log BadShape))
 
 -- a refusal that names the page
 abbrev pub on_page : Refusal → ℕ → Fault

@@ -16,6 +16,11 @@ positions Free servers filled = 0
 positions Open servers filled = filled
 positions Closed servers filled = servers
 
+-- tables whose counts are within their limits
+pub record Limited (v : Tables) : Type 0 where
+  pub servers : v.shape.servers ≤ 8
+  pub filled : v.filled ≤ v.shape.servers
+
 -- no two pages are out at one position
 abbrev pub Once : List PageState → Type 0
 Once pages = (p q g i : ℕ) → slice_index_or pages p NotOut ≡ Out g i → slice_index_or pages q NotOut ≡ Out g i → p ≡ q

@@ -1,5 +1,5 @@
 ghost use Rattle.std.specs.Prelude.{◌≡◌, ◌<◌, ◌≤◌};
-ghost use Rattle.parity_log.specs.Owners.{Changes, Linked};
+ghost use Rattle.parity_log.specs.Owners.{Changes, Tied};
 ghost use Rattle.parity_log.specs.Paging.{grown, opened, shut, unused};
 ghost use Rattle.parity_log.specs.Tables.{initial, live, page_at, with_page, with_state};
 ghost use Rattle.parity_log.specs.declared.records.GroupState.TheVariants.{Free};
@@ -8,18 +8,18 @@ use crate::owners::Owners;
 use crate::records::{GroupState, MOST_GROUPS, MOST_PAGES, PageState, Shape, Tables};
 use page::{PAGE_SIZE, Page};
 
-// The tables, and beside them who is out at each position.
+// The tables, and beside them who is out at each position, which the tables say too.
 #[derive(Clone, Copy)]
 pub struct Ledger {
     pub tables: Tables,
     owners: Owners,
+    pub ghost linked: { Tied tables.pages owners.places },
 }
 
 impl Ledger {
     // The tables of a pager just made.
     pub fn new(shape: Shape) -> Ledger
-        ensures tables { result.tables ≡ initial shape }
-        ensures linked { Linked result }
+        ensures { result.tables ≡ initial shape }
     {
         let tables = Tables {
             shape,
@@ -37,7 +37,8 @@ impl Ledger {
 
     // The page that is out at a position.
     pub fn page_at(&self, group: usize, position: usize) -> Option<usize>
-        requires { (group < 32) × ((position < 8) × (Linked self.now)) }
+        requires group { group < 32 }
+        requires position { position < 8 }
         ensures { result ≡ page_at self.now.tables.pages group position }
     {
         self.owners.at(group, position)
@@ -45,9 +46,8 @@ impl Ledger {
 
     // Changes where a page is; its new position is nobody else's.
     pub fn set_page(&mut self, page: usize, state: PageState)
-        requires { Changes self.old page state }
-        ensures tables { self.new.tables ≡ with_page self.old.tables page state }
-        ensures linked { Linked self.new }
+        requires { Changes self.old.tables page state }
+        ensures { self.new.tables ≡ with_page self.old.tables page state }
     {
         let old = self.tables.pages[page];
         self.owners.rename(old, None);
@@ -57,16 +57,13 @@ impl Ledger {
 
     // How many positions of a group are live.
     pub fn live(&self, group: usize) -> usize
-        requires { (group < 32) × ((self.now.tables.shape.servers ≤ 8) × (Linked self.now)) }
+        requires group { group < 32 }
+        requires servers { self.now.tables.shape.servers ≤ 8 }
         ensures { result ≡ live self.now.tables group }
     {
-        let mut count = 0;
-        for position in 0..self.tables.shape.servers {
-            if self.page_at(group, position).is_some() {
-                count += 1;
-            }
-        }
-        count
+        (0..self.tables.shape.servers)
+            .filter(|position| self.page_at(group, *position).is_some())
+            .count()
     }
 }
 
@@ -74,7 +71,8 @@ impl Ledger {
 impl Ledger {
     // A closed group in which no position is live.
     pub fn unused(&self, group: usize) -> bool
-        requires { (group < 32) × ((self.now.tables.shape.servers ≤ 8) × (Linked self.now)) }
+        requires group { group < 32 }
+        requires servers { self.now.tables.shape.servers ≤ 8 }
         ensures { result ≡ unused self.now.tables group }
     {
         self.tables.is_closed(group) && self.live(group) == 0
@@ -82,16 +80,14 @@ impl Ledger {
 
     pub fn free_group(&mut self, group: usize)
         requires { group < 32 }
-        ensures tables { self.new.tables ≡ with_state self.old.tables group Free }
-        ensures linked { Linked self.old → Linked self.new }
+        ensures { self.new.tables ≡ with_state self.old.tables group Free }
     {
         self.tables.states[group] = GroupState::Free;
     }
 
     pub fn open(&mut self, group: usize)
         requires { group < 32 }
-        ensures tables { self.new.tables ≡ opened self.old.tables group }
-        ensures linked { Linked self.old → Linked self.new }
+        ensures { self.new.tables ≡ opened self.old.tables group }
     {
         self.tables.states[group] = GroupState::Open;
         self.tables.last = Some(group);
@@ -100,8 +96,7 @@ impl Ledger {
     // The open group is closed, and the running parity cleared.
     pub fn shut(&mut self, group: usize)
         requires { group < 32 }
-        ensures tables { self.new.tables ≡ shut self.old.tables group }
-        ensures linked { Linked self.old → Linked self.new }
+        ensures { self.new.tables ≡ shut self.old.tables group }
     {
         self.tables.states[group] = GroupState::Closed;
         self.tables.filled = 0;
@@ -111,8 +106,7 @@ impl Ledger {
     // One position more is filled, and its page added to the running parity.
     pub fn add(&mut self, bytes: &[u8; PAGE_SIZE])
         requires { self.old.tables.filled < 8 }
-        ensures tables { self.new.tables ≡ grown self.old.tables bytes.now }
-        ensures linked { Linked self.old → Linked self.new }
+        ensures { self.new.tables ≡ grown self.old.tables bytes.now }
     {
         self.tables.filled += 1;
         self.tables.parity.add(bytes);

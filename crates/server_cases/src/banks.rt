@@ -5,19 +5,14 @@ use mirror::Mirror;
 use page::Page;
 use server::{PageServer, Pullable};
 
-fn get_on<B: Bank>(bank: &mut B, server: usize) -> Got
-    requires { B.Bank.order bank.old }
-    ensures { B.Bank.order bank.new }
-{
+fn get_on<B: Bank>(bank: &mut B, server: usize) -> Got {
     let mut page = Page::zero();
     let answer = bank.get(server, 0, &mut page.0);
-    Got(answer, page.0[0], page.0[511])
+    Got::of(answer, &page)
 }
 
 // A page is kept on server 0, copied to server 1, and restored from there after a fall.
-fn story<B: PullableBank>(rt: &HostRuntime, bank: &mut B) -> anyhow::Result<()>
-    requires { B.Bank.order bank.old }
-{
+fn story<B: PullableBank>(rt: &HostRuntime, bank: &mut B) -> anyhow::Result<()> {
     let put = Outcome(bank.put(0, 0, &Page::of_value(8).0));
     let copy = Outcome(copy_page(bank, 0, 1, 0));
     println!(rt; "bank: put on 0 {put}; copied to 1 {copy}")?;
@@ -44,9 +39,7 @@ pub fn calls(rt: &HostRuntime) -> anyhow::Result<()> {
     story(rt, &mut bank)
 }
 
-fn past<B: PullableBank>(rt: &HostRuntime, bank: &mut B, server: usize) -> anyhow::Result<()>
-    requires { B.Bank.order bank.old }
-{
+fn past<B: PullableBank>(rt: &HostRuntime, bank: &mut B, server: usize) -> anyhow::Result<()> {
     let put = Outcome(bank.put(server, 0, &[7; 512]));
     let get = get_on(bank, server);
     let free = Outcome(bank.free(server, 0));

@@ -1,4 +1,4 @@
-use crate::calls::{get_page, life, put_value, refusals};
+use crate::calls::{self, get_page, life, put_value};
 use crate::outcome::Outcome;
 use memory::Memory;
 use server::PageServer;
@@ -14,7 +14,8 @@ pub fn sizes(rt: &HostRuntime) -> anyhow::Result<()> {
 
 // A memory of two slots: lengths before slots, and slots at and past the end.
 pub fn bad_calls(rt: &HostRuntime) -> anyhow::Result<()> {
-    for (slot, len) in [
+    let mut bytes = [9u8; 1024];
+    let cases = [
         (0usize, 0usize),
         (0, 511),
         (0, 513),
@@ -22,13 +23,8 @@ pub fn bad_calls(rt: &HostRuntime) -> anyhow::Result<()> {
         (2, 512),
         (64, 512),
         (usize::MAX, 512),
-    ] {
-        let mut bytes = [9u8; 1024];
-        let mut buffer = vec![in rt.alloc(); 7u8; len]?;
-        let answers = refusals(&mut Memory::new(&mut bytes, 0), slot, &mut buffer);
-        println!(rt; "memory, slot {slot}, {len} bytes: {answers}")?;
-    }
-    Ok(())
+    ];
+    calls::bad_calls(rt, "memory", &mut Memory::new(&mut bytes, 0), &cases)
 }
 
 // The last slot of the largest memory, its neighbours, and what a free leaves.

@@ -1,4 +1,4 @@
-use crate::calls::{get_page, life, put_value, refusals};
+use crate::calls::{self, get_page, life, put_value};
 use crate::outcome::Outcome;
 use memory::Memory;
 use mirror::{Half, Mirror};
@@ -23,22 +23,18 @@ pub fn sizes(rt: &HostRuntime) -> anyhow::Result<()> {
 
 // Halves of two slots and of three.
 pub fn bad_calls(rt: &HostRuntime) -> anyhow::Result<()> {
-    for (slot, len) in [
+    let mut first = [9u8; 1024];
+    let mut second = [9u8; 1536];
+    let mut server = Mirror::new(Memory::new(&mut first, 0), Memory::new(&mut second, 0));
+    let cases = [
         (0usize, 0usize),
         (0, 511),
         (0, 513),
         (9, 511),
         (2, 512),
         (usize::MAX, 512),
-    ] {
-        let mut first = [9u8; 1024];
-        let mut second = [9u8; 1536];
-        let mut buffer = vec![in rt.alloc(); 7u8; len]?;
-        let mut server = Mirror::new(Memory::new(&mut first, 0), Memory::new(&mut second, 0));
-        let answers = refusals(&mut server, slot, &mut buffer);
-        println!(rt; "mirror, slot {slot}, {len} bytes: {answers}")?;
-    }
-    Ok(())
+    ];
+    calls::bad_calls(rt, "mirror", &mut server, &cases)
 }
 
 // A half that fell lacks its page, and takes new ones once it is back.

@@ -1,4 +1,4 @@
-use page::Fault;
+use page::{Fault, Page};
 use std::fmt;
 
 // An answer as a person reads it.
@@ -8,7 +8,7 @@ pub struct Outcome(pub Result<(), Fault>);
 impl fmt::Display for Outcome {
     fn fmt<W: fmt::Write>(&self, f: &mut fmt::Formatter<W>) -> fmt::Result {
         match self.0 {
-            Ok(_) => write!(f, "done"),
+            Ok(()) => write!(f, "done"),
             Err(fault) => write!(f, "{fault}"),
         }
     }
@@ -16,14 +16,19 @@ impl fmt::Display for Outcome {
 
 // What a get answered: the page's first and last byte, or the fault.
 #[derive(Clone, Copy)]
-pub struct Got(pub Result<(), Fault>, pub u8, pub u8);
+pub struct Got(pub Result<(u8, u8), Fault>);
+
+impl Got {
+    // A get that left this page in its buffer.
+    pub fn of(answer: Result<(), Fault>, page: &Page) -> Got {
+        Got(answer.map(|()| (page.0[0], page.0[511])))
+    }
+}
 
 impl fmt::Display for Got {
     fn fmt<W: fmt::Write>(&self, f: &mut fmt::Formatter<W>) -> fmt::Result {
-        let first = self.1;
-        let last = self.2;
         match self.0 {
-            Ok(_) => write!(f, "page {first}..{last}"),
+            Ok((first, last)) => write!(f, "page {first}..{last}"),
             Err(fault) => write!(f, "{fault}"),
         }
     }

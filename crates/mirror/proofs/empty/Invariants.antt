@@ -2,4 +2,4 @@ use Rattle.mirror.specs.Sweep.{Swept}
 use Rattle.mirror.proofs.empty.Given as goal
 
 abbrev pub invariant-loop-slot : goal.invariant-loop-slot
-invariant-loop-slot g l = g.S.PageServer.order l.server × Swept g.S.PageServer.steps l.initial.server l.slot l.server
+invariant-loop-slot g l = Swept g.S.PageServer.steps l.initial.server l.slot l.server

@@ -1,4 +1,4 @@
-ghost use Rattle.std.specs.Prelude.{◌≡◌, ◌+◌, ◌≤◌, Ok as Done};
+ghost use Rattle.std.specs.Prelude.{◌≡◌, Ok as Done};
 ghost use Rattle.law.specs.Runs.{Happens, Moment, begins, closes, steps};
 ghost use Rattle.parity_log.specs.Rebuilding.{begin as begin_rule, counts, step as step_rule, stepped};
 ghost use Rattle.parity_log.specs.Rule.{Ends};
@@ -9,21 +9,32 @@ ghost use Rattle.pager.specs.Order.{Ordered};
 
 use crate::Pager;
 use crate::job::RebuildJob;
-use crate::visiting::{admit_job, visit_next};
+use crate::log::Log;
 use bank::Bank;
 use page::{Fault, Layer, Refusal};
 use parity_log::{Counts, Progress};
 
+impl<B: Bank> Log<B> {
+    // A step, once nothing is objected to.
+    fn step_admitted(&mut self, job: RebuildJob) -> RebuildJob
+        requires order { Ordered B.Bank.count B.Bank.means self.old }
+        requires admitted { AdmittedJob self.old.ledger.tables job.progress }
+        ensures order { Ordered B.Bank.count B.Bank.means self.new }
+        ensures tables { self.new.ledger ≡ self.old.ledger }
+        ensures ran { Ends B.Bank.steps (step_rule self.old.ledger.tables job.progress) self.old.bank (stepped (Done tt) result.progress) self.new.bank }
+        ensures turn { Turns (moment_of B.Bank.count B.Bank.means self.old) (λ fs. steps job.progress (Done tt) result.progress fs) (moment_of B.Bank.count B.Bank.means self.new) }
+    {
+        self.visit_next(job)
+    }
+}
+
 impl<B: Bank> Pager<B> {
     // Begins a rebuild of a data server or, by the number after theirs, of the parity server.
     pub fn begin(&self, server: usize) -> Result<RebuildJob, Fault>
-        ensures begun { progress_of result ≡ begin_rule self.now.ledger.tables server }
-        ensures turn { Happens (moment_of B.Bank.count B.Bank.means self.now) (begins server (progress_of result)) (moment_of B.Bank.count B.Bank.means self.now) }
+        ensures begun { progress_of result ≡ begin_rule self.now.log.ledger.tables server }
+        ensures turn { Happens (moment_of B.Bank.count B.Bank.means self.now.log) (begins server (progress_of result)) (moment_of B.Bank.count B.Bank.means self.now.log) }
     {
-        let shape = self.ledger.tables.shape;
-        if !shape.is_within() {
-            return Err(Fault::new(Layer::Log, Refusal::Shape));
-        }
+        let shape = self.log.ledger.tables.made()?;
         if server > shape.servers {
             return Err(Fault::new(Layer::Log, Refusal::Range));
         }
@@ -38,33 +49,15 @@ impl<B: Bank> Pager<B> {
         Ok(RebuildJob { progress })
     }
 
-    // A step, once nothing is objected to.
-    fn step_admitted(&mut self, progress: Progress) -> Progress
-        requires { (Ordered B.Bank.order B.Bank.count B.Bank.means self.old) × ((AdmittedJob self.old.ledger.tables progress) × (progress.rebuilt + progress.failed ≤ progress.group)) }
-        ensures order { Ordered B.Bank.order B.Bank.count B.Bank.means self.new }
-        ensures counted { result.rebuilt + result.failed ≤ result.group }
-        ensures tables { self.new.ledger ≡ self.old.ledger }
-        ensures ran { Ends B.Bank.steps (step_rule self.old.ledger.tables progress) self.old.bank (stepped (Done tt) result) self.new.bank }
-        ensures turn { Turns (moment_of B.Bank.count B.Bank.means self.old) (λ fs. steps progress (Done tt) result fs) (moment_of B.Bank.count B.Bank.means self.new) }
-    {
-        visit_next(&mut self.bank, &self.ledger.tables, progress)
-    }
-
     // Visits one group for the job, or none past the last, and gives the job back.
     pub fn step(&mut self, job: RebuildJob) -> (RebuildJob, Result<(), Fault>)
-        requires { Ordered B.Bank.order B.Bank.count B.Bank.means self.old }
-        ensures order { Ordered B.Bank.order B.Bank.count B.Bank.means self.new }
-        ensures tables { self.new.ledger ≡ self.old.ledger }
-        ensures ran { Ends B.Bank.steps (step_rule self.old.ledger.tables job.progress) self.old.bank (stepped result.1 result.0.progress) self.new.bank }
-        ensures turn { Turns (moment_of B.Bank.count B.Bank.means self.old) (λ fs. steps job.progress result.1 result.0.progress fs) (moment_of B.Bank.count B.Bank.means self.new) }
+        ensures tables { self.new.log.ledger ≡ self.old.log.ledger }
+        ensures ran { Ends B.Bank.steps (step_rule self.old.log.ledger.tables job.progress) self.old.log.bank (stepped result.1 result.0.progress) self.new.log.bank }
+        ensures turn { Turns (moment_of B.Bank.count B.Bank.means self.old.log) (λ fs. steps job.progress result.1 result.0.progress fs) (moment_of B.Bank.count B.Bank.means self.new.log) }
     {
-        let RebuildJob { progress } = job;
-        match admit_job(&self.ledger.tables, progress) {
-            Ok(_) => {
-                let progress = self.step_admitted(progress);
-                (RebuildJob { progress }, Ok(()))
-            }
-            Err(fault) => (RebuildJob { progress }, Err(fault)),
+        match self.log.ledger.tables.admit_job(job.progress) {
+            Ok(_) => (self.log.step_admitted(job), Ok(())),
+            Err(fault) => (job, Err(fault)),
         }
     }
 }

@@ -1,5 +1,5 @@
-use Rattle.pager.specs.Order.{Ordered}
+use Rattle.std.proofs.Common.{◌≤◌}
 use Rattle.paging.proofs.page_in.Given as goal
 
-abbrev pub invariant-loop-page : goal.invariant-loop-page
-invariant-loop-page g l = Ordered g.B.Bank.order g.B.Bank.count g.B.Bank.means l.pager
+abbrev pub invariant-loop-number : goal.invariant-loop-number
+invariant-loop-number g l = l.equal ≤ l.number

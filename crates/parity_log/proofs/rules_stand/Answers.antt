@@ -3,4 +3,4 @@ use Rattle.parity_log.proofs.Pigeonhole.{pigeonhole}
 use Rattle.parity_log.proofs.rules_stand.Goals as goal
 
 pub returns : goal.returns
-returns c = (worked_facts, pigeonhole)
+returns c = record { worked = worked_facts; pigeonhole = pigeonhole }

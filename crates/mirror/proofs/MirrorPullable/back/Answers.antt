@@ -1,12 +1,16 @@
-use Rattle.mirror.proofs.Returning.{both_return}
+use Rattle.std.proofs.Common.{◌≡◌, rules}
+use Rattle.mirror.specs.Rule.{either_done_of}
+use Rattle.mirror.specs.Pulling.{worn}
+use Rattle.mirror.proofs.Returning.{paired_back, joined_backs}
 use Rattle.mirror.proofs.MirrorPullable.back.Goals as goal
 
-pub returns : goal.returns
-returns g c =
-    let one = c.back-one.result in
-    let two = c.back-two.result in
-    let f = c.back-one.ensures in
-    let h = c.back-two.ensures in
-    let r = both_return g.P.PageServer.laws g.Q.PageServer.laws c.args.self.now c.requires (record { first = c.back-one.new.self; second = c.back-two.new.self }) c.either_done.result one two c.new.result
-    f.order h.order f.meets h.meets c.new.ensures c.either_done.ensures in
-    record { order = r.0; backs = (one, two, f.backs, h.backs, r.1); meets = r.2 }
+pub invariant_of-self : goal.invariant_of-self
+invariant_of-self g c =
+    let x = c.args.self.now in
+    record { paired = paired_back (g.P.PageServer.laws.sound x.first) (g.Q.PageServer.laws.sound x.second) c.back-one.ensures.meets c.back-two.ensures.meets x.paired }
+
+pub returns-clause-meets : goal.returns-clause-meets
+returns-clause-meets g c =
+    let x = c.args.self.now in
+    let e : c.or-2.result ≡ either_done_of worn c.back-one.result c.back-two.result = search rules in
+    rw e (joined_backs (g.P.PageServer.laws.sound x.first) (g.Q.PageServer.laws.sound x.second) c.back-one.ensures.meets c.back-two.ensures.meets)

@@ -7,9 +7,9 @@ use Rattle.pager.proofs.Pager.pagein.Goals as goal
 pub returns-in_err-admit : goal.returns-in_err-admit
 returns-in_err-admit g c =
     let bank = g.B.Bank in
-    let old = c.args.self.now in
+    let old = c.args.self.now.log in
     let x = c.args.buffer.now in
     let r = c.from_residual.result in
     let p = err_from_is_err_and r c.from_residual.ensures.1 in
     let out = pagein_refused bank.steps old.ledger.tables c.args.page _ old.bank old.bank x r _ p.0 p.1 p.2 c.in_err-admit.ensures in
-    record { order = c.requires; ran = out.0; tables = refl; left = out.1; turn = pagein_turn bank.count bank.means bank.order bank.steps bank.laws old old.bank c.requires.bank c.args.page _ _ out.0 }
+    record { ran = out.0; tables = refl; left = out.1; turn = pagein_turn bank.count bank.means bank.steps bank.laws old old refl c.args.page _ _ out.0 }

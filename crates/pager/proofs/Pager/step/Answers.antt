@@ -6,8 +6,8 @@ use Rattle.pager.proofs.Pager.step.Goals as goal
 pub returns-in-Err : goal.returns-in-Err
 returns-in-Err g c =
     let bank = g.B.Bank in
-    let old = c.args.self.now in
+    let old = c.args.self.now.log in
     let b = old.bank in
     let j = c.args.job.progress in
     let run = step_refused bank.steps old.ledger.tables j b b c.in-Err.fault c.in-Err.ensures in
-    record { order = c.requires; tables = refl; ran = run; turn = step_turn bank.count bank.means bank.order bank.steps bank.laws old b c.requires.bank j _ _ run }
+    record { tables = refl; ran = run; turn = step_turn bank.count bank.means bank.steps bank.laws old old refl j _ _ run }

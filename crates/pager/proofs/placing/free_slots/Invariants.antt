@@ -7,5 +7,4 @@ use Rattle.pager.proofs.placing.free_slots.Given as goal
 
 abbrev pub invariant-loop-server : goal.invariant-loop-server
 invariant-loop-server g l =
-    g.B.Bank.order l.bank
-    × ((v : Tables) → Leads g.B.Bank.steps (free_on (range_with_len 0 (l.servers + 1)) l.group v) l.initial.bank (free_on (range_with_len l.server (l.servers + 1 - l.server)) l.group v) l.bank)
+    (v : Tables) → Leads g.B.Bank.steps (free_on (range_with_len 0 (l.servers + 1)) l.group v) l.initial.bank (free_on (range_with_len l.server (l.servers + 1 - l.server)) l.group v) l.bank

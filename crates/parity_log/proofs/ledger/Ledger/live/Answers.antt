@@ -1,19 +1,11 @@
-use Rattle.std.proofs.Common.{true, false, is_some, sym, refl, ap, ◌∙◌, add-zero, arith}
-use Rattle.parity_log.specs.Tables.{live_count}
-use Rattle.parity_log.proofs.SearchLaws.{live_more}
+use Rattle.std.proofs.Common.{is_some, rules}
+use borrow.Author.Tests.{tests}
+use Rattle.parity_log.specs.Tables.{page_at, live_count}
+use Rattle.parity_log.proofs.SearchLaws.{count_below}
 use Rattle.parity_log.proofs.ledger.Ledger.live.Goals as goal
-use Rattle.parity_log.proofs.ledger.Ledger.live.Goals.{then-is_some, else-is_some}
 
-pub loop-position-init : goal.loop-position-init
+pub returns : goal.returns
 unfolding live_count
-loop-position-init c = (omega arith, refl)
-
-pub loop-position-preserved : goal.loop-position-preserved
-loop-position-preserved c =
-    let pages = c.args.self.now.tables.pages in
-    let more = live_more pages c.loop-position.position c.args.group c.loop-position.count in
-    let here = ap is_some (sym c.page_at.ensures) in
-    elim c.if-is_some.branch [
-      | then-is_some w ↦ (omega (arith, w.count-is, c.loop-position.invariant.0), w.count-is ∙ more true c.loop-position.invariant.1 (here ∙ sym w.if-is_some.ensures))
-      | else-is_some w ↦ (omega (arith, w.count-is, c.loop-position.invariant.0), w.count-is ∙ sym (add-zero c.loop-position.count) ∙ more false c.loop-position.invariant.1 (here ∙ sym w.if-is_some.ensures))
-    ]
+returns c =
+    let v = c.args.self.now.tables in
+    count_below (λ i. is_some (page_at v.pages c.args.group i)) v.shape.servers c.filter.ensures.source c.filter.ensures.closure (λ k b q e. search (rules, tests)) _ c.count.ensures.ran

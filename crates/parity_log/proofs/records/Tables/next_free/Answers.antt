@@ -15,15 +15,15 @@ unfolding next_free
 next_is v s far e l t none = ap (λ b. first_in (λ g. is_free (state_of v g)) (round b v.shape.groups)) (sym e) ∙ first_round (λ g. is_free (state_of v g)) s v.shape.groups far l t none
 
 pub start-start-requires : goal.start-start-requires
-start-start-requires c = let s = some_free c.args.self.now c.requires.1.1 in (omega (arith, s.1), c.requires.1.0)
+start-start-requires c = let s = some_free c.args.self.now c.requires.spare in record { groups = omega (arith, s.1); last = c.requires.last }
 
 pub loop-group-init : goal.loop-group-init
-loop-group-init c = let s = some_free c.args.self.now c.requires.1.1 in (omega (arith, s.1), λ k h. absurd (omega arith))
+loop-group-init c = let s = some_free c.args.self.now c.requires.spare in (omega (arith, s.1), λ k h. absurd (omega arith))
 
 pub loop-group-preserved : goal.loop-group-preserved
 loop-group-preserved c =
     let v = c.args.self.now in
-    let s = some_free v c.requires.1.1 in
+    let s = some_free v c.requires.spare in
     let here = c.start-start.result in
     let below : here < v.shape.groups = subst (λ n. n < v.shape.groups) (sym c.start-start.ensures) (start_below v.last v.shape.groups (omega (arith, s.1))) in
     let none = below_more (λ k. is_free (state_of v ((here + k) % v.shape.groups)) ≡ false) c.loop-group.far c.loop-group.invariant.1 (sym c.if-is_free.ensures) in

@@ -1,0 +1,59 @@
+-- A rebuild's turns joined, and what a server is once it was brought back.
+use Rattle.std.proofs.Common.{◌≡◌, ℕ, ◌<◌, Bool, true, false, List, [], ◌∷◌, ◌++◌, Ok, Result, refl, ap, ◌∙◌, subst, ⊎_elim}
+use Rattle.std.proofs.lemmas.Bool.{cases_lt}
+use Rattle.page.specs.declared.faults.Fault.{Fault}
+use Rattle.server.specs.Meaning.{Meaning}
+use Rattle.server.specs.Pulls.{Backs}
+use Rattle.parity_log.specs.declared.records.Progress.{Progress}
+use Rattle.parity_log.specs.declared.records.Shape.{Shape}
+use Rattle.parity_log.specs.Tables.{within}
+use Rattle.law.specs.Law.{Thread, ended, between, stepping}
+use Rattle.law.specs.Rows.{Row}
+use Rattle.law.specs.Runs.{Moment, Turn, Run, steps}
+use Rattle.parity_log.specs.Reading.{Finding}
+use Rattle.pager.specs.Moments.{Turns}
+use Rattle.pager.specs.Pulls.{HandsOn, Meets}
+use Rattle.law_runs.specs.Restoring.{Advances}
+
+run_joined : (ts us : List Turn) (m n o : Moment) → Run m ts n → Run n us o → Run m (ts ++ us) o
+run_joined [] us m n o h i = subst (λ (x : Moment). Run x us o) h i
+run_joined (t ∷ ts) us m n o h i = (h.0, h.1, run_joined ts us h.0 n o h.2 i)
+
+thread_joined : {j k l : Progress} {ts us : List Turn} → Thread j ts k → Thread k us l → Thread j (ts ++ us) l
+thread_joined ended i = i
+thread_joined (between h) i = between (thread_joined h i)
+thread_joined (stepping h) i = stepping (thread_joined h i)
+
+pub nothing_yet : (m : Moment) (j : Progress) → Advances m j m j
+nothing_yet m j = record { turns = []; run = refl; thread = ended }
+
+pub joined : (m n o : Moment) (j k l : Progress) → Advances m j n k → Advances n k o l → Advances m j o l
+joined m n o j k l h i = record { turns = h.turns ++ i.turns; run = run_joined h.turns i.turns m n o h.run i.run; thread = thread_joined h.thread i.thread }
+
+pub stepped : (m n : Moment) (j k : Progress) (a : Result (Unit {0}) Fault) → Turns m (λ fs. steps j a k fs) n → Advances m j n k
+stepped m n j k a t = record { turns = steps j a k t.0 ∷ []; run = (n, t.1, refl); thread = stepping ended }
+
+-- a turn between two steps
+pub beside : (m n : Moment) (j : Progress) (turn : List (Finding × Row) → Turn) → Turns m turn n → Advances m j n j
+beside m n j turn t = record { turns = turn t.0 ∷ []; run = (n, t.1, refl); thread = between ended }
+
+-- of server x, by a done back
+pub record BroughtBack (x : ℕ) (servers : ℕ) (before after : Row) : Type 0 where
+  pub there : x < servers
+  pub up : (after x).up ≡ true
+  pub era : (after x).era ≡ (before x).era
+
+module _ {B : Type 0} (count : B → ℕ) (means : B → ℕ → Meaning) (b e : B) (x : ℕ) where
+  is_back : (a : Result (Unit {0}) Fault) → a ≡ Ok tt → x < count b → Backs (means b x) a (means e x) → BroughtBack x (count b) (means b) (means e)
+  is_back a done there r = go (means b x).up refl
+    where
+      go : (u : Bool) → (means b x).up ≡ u → BroughtBack x (count b) (means b) (means e)
+      go true u = let same = (r.up u).1 in record { there = there; up = ap (λ (m : Meaning). m.up) same ∙ u; era = ap (λ (m : Meaning). m.era) same }
+      go false u = ⊎_elim (λ came. record { there = there; up = came.1.0; era = came.1.1 }) (λ worn. let same = worn.0.1 in cc) (r.down u)
+
+  pub done_back : (s : Shape) (u : Unit {0}) → HandsOn (Meets count means Backs) s b x (Ok u) e → BroughtBack x (count b) (means b) (means e)
+  done_back s u hands = go (within s) refl
+    where
+      go : (w : Bool) → within s ≡ w → BroughtBack x (count b) (means b) (means e)
+      go true w = let moved = hands.made w in ⊎_elim (λ here. is_back (Ok u) refl here (moved.here here)) (λ past. let no = (moved.past past).0 in cc) (cases_lt x (count b))
+      go false w = let no = (hands.not_made w).0 in cc

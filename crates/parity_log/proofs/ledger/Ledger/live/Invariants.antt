@@ -1,6 +1,0 @@
-use Rattle.std.proofs.Common.{◌≡◌, ◌≤◌}
-use Rattle.parity_log.specs.Tables.{live_count}
-use Rattle.parity_log.proofs.ledger.Ledger.live.Given as goal
-
-abbrev pub invariant-loop-position : goal.invariant-loop-position
-invariant-loop-position l = (l.count ≤ l.position) × (l.count ≡ live_count l.self.tables.pages l.position l.group)
