@@ -1,0 +1,4 @@
+pub mod Listing
+pub mod Replaying
+pub mod Script
+pub mod Worked
