@@ -77,4 +77,20 @@ impl<B: Bank> Pager<B> {
         self.log.ledger = Ledger::new(shape);
         Ok(shape.capacity())
     }
+
+    // How many groups it has: none before it is made.
+    pub fn groups(&self) -> usize
+        ensures { result ≡ self.now.log.ledger.tables.shape.groups }
+    {
+        self.log.ledger.tables.shape.groups
+    }
+
+    // Ends the pager, and hands its bank back.
+    pub fn into_bank(self) -> B
+        ensures { result ≡ self.log.bank }
+    {
+        let Pager { log } = self;
+        let Log { bank, ledger: _ } = log;
+        bank
+    }
 }

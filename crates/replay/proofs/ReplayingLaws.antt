@@ -46,12 +46,12 @@ module _ {X : Type 0} (runs : X → Call → Result Detail Fault → X → Type 
       (refl, bytes ∙ ap (λ a. written listing count (line_of a)) here, ap Break (answer ∙ ap (λ a. count_after listing count (line_of a)) here))
   unread_replayed number (Some call) fault placed entry x listing count outcome after e place made bytes answer = absurd cc
 
-  pub call_replayed : (number : ℕ) (o : Option Call) (call : Call) (x : X) (listing : List ℕ) (count : ℕ) (answer : Result Detail Fault) (flow : ControlFlow (Result ℕ Full) ℕ) (y : X) (after : List ℕ) → Ok call ≡ call_or_unread o → runs x call answer y → after ≡ written listing count (line_of (run_entry number call answer)) → flow ≡ going (count_after listing count (line_of (run_entry number call answer))) → ReplaysRead runs number o x listing count flow y after
-  call_replayed number None call x listing count answer flow y after e ran bytes flows = absurd cc
-  call_replayed number (Some read) call x listing count answer flow y after e ran bytes flows =
+  pub call_replayed : (number : ℕ) (o : Option Call) (call : Call) (entry : Entry) (x : X) (listing : List ℕ) (count : ℕ) (answer : Result Detail Fault) (flow : ControlFlow (Result ℕ Full) ℕ) (y : X) (after : List ℕ) → Ok call ≡ call_or_unread o → entry ≡ run_entry number call answer → runs x call answer y → after ≡ written listing count (line_of entry) → flow ≡ going (count_after listing count (line_of entry)) → ReplaysRead runs number o x listing count flow y after
+  call_replayed number None call entry x listing count answer flow y after e made ran bytes flows = absurd cc
+  call_replayed number (Some read) call entry x listing count answer flow y after e made ran bytes flows =
       let same : call ≡ read = cc in
       let P : Call → Type 0 = λ a. ReplaysRead runs number (Some a) x listing count flow y after in
-      subst P same (answer, ran, (bytes, flows))
+      subst P same (answer, ran, (bytes ∙ ap (λ a. written listing count (line_of a)) made, flows ∙ ap (λ a. going (count_after listing count (line_of a))) made))
 
   read_within : (number : ℕ) (o : Option Call) (x : X) (listing : List ℕ) (count : ℕ) (flow : ControlFlow (Result ℕ Full) ℕ) (y : X) (after : List ℕ) → count ≤ length listing → ReplaysRead runs number o x listing count flow y after → FlowWithin flow (length listing) × (length after ≡ length listing)
   read_within number None x listing count flow y after h (same, bytes, flows) =

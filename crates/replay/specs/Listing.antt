@@ -1,7 +1,7 @@
 -- What a replay writes: the bytes of each line, and how they are laid into a buffer that may be too short.
 use Rattle.std.specs.Prelude.{ℕ, ◌+◌, ◌≤◌, Bool, not, List, ◌++◌, map, length, slice_index, take, drop, Option, Some, None, Result, Ok, Err, ℤ, pos, negsuc, if◌then◌else◌, ◌==◌, nat_le, codes, bit_and, decimal}
 use Rattle.std.specs.List.{filter, join_with_byte, range_with_len}
-use Rattle.page.specs.Refusals.{named}
+use Rattle.page.specs.Refusals.{named, on_line}
 use Rattle.page.specs.declared.faults.Fault.{Fault}
 use Rattle.page.specs.declared.faults.Refusal.{Refusal}
 use Rattle.page.specs.declared.faults.Refusal.TheVariants.{Lost}
@@ -17,9 +17,14 @@ use Rattle.replay.specs.declared.script.Call.{Call}
 abbrev pub unread_entry : ℕ → Fault → Entry
 unread_entry number fault = record { line = number; call = None; answer = Err fault }
 
+-- an answer whose fault has its line
+abbrev pub told_line : ℕ → Result Detail Fault → Result Detail Fault
+told_line number (Ok detail) = Ok detail
+told_line number (Err fault) = Err (on_line number fault)
+
 -- a call that has run
 abbrev pub run_entry : ℕ → Call → Result Detail Fault → Entry
-run_entry number call answer = record { line = number; call = Some call; answer = answer }
+run_entry number call answer = record { line = number; call = Some call; answer = told_line number answer }
 
 -- the listing's first line
 abbrev pub header : List ℕ

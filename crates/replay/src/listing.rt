@@ -1,4 +1,4 @@
-ghost use Rattle.replay.specs.Listing.{answer_of, answer_text, answer_word, called, count_after, detail_text, header, CountsWithin, line_of, missing_text, refusal_text, unread_entry, written};
+ghost use Rattle.replay.specs.Listing.{answer_of, answer_text, answer_word, called, count_after, detail_text, header, CountsWithin, line_of, missing_text, refusal_text, run_entry, unread_entry, written};
 ghost use Rattle.std.specs.Prelude.{◌≡◌, ◌+◌, ◌^◌, ◌<◌, ◌≤◌, ◌++◌, codes, decimal};
 
 use crate::script::Call;
@@ -99,6 +99,17 @@ fn refusal_text(fault: &Fault) -> ArrayString<41>
 }
 
 impl Entry {
+    // The entry of a call; a fault is told its line.
+    pub fn run(line: usize, call: Call, answer: Result<Detail, Fault>) -> Entry
+        ensures { result ≡ run_entry line call answer }
+    {
+        Entry {
+            line,
+            call: Some(call),
+            answer: answer.map_err(|fault| fault.on_line(line)),
+        }
+    }
+
     // The entry of a line that can't be read.
     pub fn unread(line: usize, fault: Fault) -> Entry
         ensures { result ≡ unread_entry line fault }

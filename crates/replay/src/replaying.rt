@@ -39,11 +39,7 @@ fn replay_line<R: Runner>(
         }
     };
     let answer = runner.run(call);
-    let entry = Entry {
-        line: number,
-        call: Some(call),
-        answer,
-    };
+    let entry = Entry::run(number, call, answer);
     match write_entry(listing, count, &entry) {
         Ok(count) => ControlFlow::Continue(count),
         Err(full) => ControlFlow::Break(Err(full)),

@@ -10,8 +10,8 @@ returns-in-Err g c =
 
 pub returns-in-Ok-write_entry : goal.returns-in-Ok-write_entry
 returns-in-Ok-write_entry g c =
-    call_replayed g.R.Runner.runs c.args.number (read_call c.args.line.now) c.in-Ok.call c.args.runner.now c.args.listing.now c.args.count c.run-answer.result _ _ _ (search rules) c.run-answer.ensures c.write_entry-2.ensures.bytes (ap going c.in-Ok-write_entry.ensures.answer)
+    call_replayed g.R.Runner.runs c.args.number (read_call c.args.line.now) c.in-Ok.call c.run-entry.result c.args.runner.now c.args.listing.now c.args.count c.run-answer.result _ _ _ (search rules) c.run-entry.ensures c.run-answer.ensures c.write_entry-2.ensures.bytes (ap going c.in-Ok-write_entry.ensures.answer)
 
 pub returns-in-Err-write_entry : goal.returns-in-Err-write_entry
 returns-in-Err-write_entry g c =
-    call_replayed g.R.Runner.runs c.args.number (read_call c.args.line.now) c.in-Ok.call c.args.runner.now c.args.listing.now c.args.count c.run-answer.result _ _ _ (search rules) c.run-answer.ensures c.write_entry-2.ensures.bytes (ap going c.in-Err-write_entry.ensures.answer)
+    call_replayed g.R.Runner.runs c.args.number (read_call c.args.line.now) c.in-Ok.call c.run-entry.result c.args.runner.now c.args.listing.now c.args.count c.run-answer.result _ _ _ (search rules) c.run-entry.ensures c.run-answer.ensures c.write_entry-2.ensures.bytes (ap going c.in-Err-write_entry.ensures.answer)

@@ -1,0 +1,18 @@
+use Rattle.std.proofs.Common.{Ok, ap, ◌∙◌, arith}
+use Rattle.session.specs.Calls.{groups_of}
+use Rattle.session.proofs.RebuildLaws.{closed, one_more}
+use Rattle.session.proofs.running.Session.rebuild.Goals as goal
+
+pub loop-preserved : goal.loop-preserved
+loop-preserved g c =
+    let before = c.args.self.now.pager.log in
+    let now = c.loop.self.pager.log in
+    record {
+      tables = ap (λ l. l.tables) c.step.ensures.tables ∙ c.loop.invariant.tables;
+      come = one_more g.B.Bank.steps before.ledger.tables c.in_ok-job.job.progress before.bank c.loop.counter c.loop.job.progress now.bank now.ledger.tables c.step.result.1 c.step.result.0.progress c.step.new.self.log.bank (omega (arith, c.loop-test.true)) c.loop.invariant.tables c.loop.invariant.come c.step.ensures.ran;
+    }
+
+pub returns-clause-ran : goal.returns-clause-ran
+returns-clause-ran g c =
+    let before = c.args.self.now.pager.log in
+    closed g.B.Bank.steps before.ledger.tables c.in_ok-job.job.progress before.bank c.args.server c.loop.counter c.loop.job.progress c.loop.self.pager.log.bank _ c.in_ok-job.ensures.begun (omega (arith, c.loop-test.false)) c.loop.invariant.come (ap (λ s. Ok (groups_of s)) c.close-counts.ensures.counts)

@@ -1,0 +1,66 @@
+-- Two scripts that were worked out by hand, over five memory servers of three slots each: the listings that they have, and the members that are missing.
+use Rattle.std.specs.Prelude.{◌≡◌, ◌++◌, ℕ, List, [], ◌∷◌, codes, length, map, negsuc, pos, replicate, take}
+use Rattle.law.specs.Missing.{missing_set}
+use Rattle.memory.specs.Store.{made}
+use Rattle.parity_log.specs.Tables.{unmade}
+use Rattle.replay.specs.Replaying.{replayed}
+use Rattle.session.specs.Calls.{Model, model, run_model}
+use Rattle.session.specs.Memories.{Listed, replay_over}
+use Rattle.session.specs.Model.{meanings}
+
+abbrev pub memories : List (List ℕ)
+memories = replicate 5 (replicate 1536 0)
+
+-- a replay into a listing of so many zeros
+abbrev pub worked : List ℕ → ℕ → Listed (List ℕ)
+worked script room = replay_over script memories (replicate room 0)
+
+-- falls, a page that is restored, a lost one, and a rebuild that fails
+abbrev pub losing_script : List ℕ
+losing_script =
+    codes "call,number,value\nmake,3,-\nout,0,10\nout,1,20\nfall,0,-\nin,0,-\nfall,1,-\nin,1,-\nback,0,-\nrebuild,0,-\n"
+
+abbrev pub losing_listing : List ℕ
+losing_listing =
+    codes "line,call,number,answer,detail\n2,make,3,done,4\n3,out,0,done,-\n4,out,1,done,-\n5,fall,0,done,-\n6,in,0,done,10\n7,fall,1,done,-\n8,in,1,lost,0+1\n9,back,0,done,-\n10,rebuild,0,done,0/1\n"
+
+-- Two groups fill, and line 12 opens the last free one: group 0 is cleaned into it while server 2 is down. Then server 2 is rebuilt.
+abbrev pub cleaning_script : List ℕ
+cleaning_script =
+    codes "call,number,value\nmake,3,2\nout,0,1\nout,1,2\nout,2,3\nout,3,4\nout,0,5\nout,1,6\nout,0,7\nout,1,8\nfall,2,-\nout,0,9\nin,2,-\nback,2,-\nrebuild,2,-\nfall,3,-\nin,0,-\nin,1,-\nfree,2,-\nin,2,-"
+
+abbrev pub cleaning_listing : List ℕ
+cleaning_listing =
+    codes "line,call,number,answer,detail\n2,make,3,done,4\n3,out,0,done,-\n4,out,1,done,-\n5,out,2,done,-\n6,out,3,done,-\n7,out,0,done,-\n8,out,1,done,-\n9,out,0,done,-\n10,out,1,done,-\n11,fall,2,done,-\n12,out,0,done,-\n13,in,2,done,3\n14,back,2,done,-\n15,rebuild,2,done,2/0\n16,fall,3,done,-\n17,in,0,done,9\n18,in,1,done,8\n19,free,2,done,-\n20,in,2,none,-\n"
+
+-- In no bytes nothing runs. In 61 there is room for two lines, which have 47; the third would have 15.
+pub record WorkedReplays : Type 0 where
+  pub losing : (worked losing_script (length losing_listing)).answer ≡ pos (length losing_listing)
+  pub losing_listed : (worked losing_script (length losing_listing)).listing ≡ losing_listing
+  pub none_run : map (take 2) (worked losing_script 0).memories ≡ replicate 5 (0 ∷ 0 ∷ [])
+  pub losing_left : map (take 2) (worked losing_script (length losing_listing)).memories ≡ (10 ∷ 11 ∷ []) ∷ (20 ∷ 21 ∷ []) ∷ (0 ∷ 0 ∷ []) ∷ (0 ∷ 0 ∷ []) ∷ (0 ∷ 0 ∷ []) ∷ []
+  pub cleaning : (worked cleaning_script (length cleaning_listing)).answer ≡ pos (length cleaning_listing)
+  pub cleaning_listed : (worked cleaning_script (length cleaning_listing)).listing ≡ cleaning_listing
+  pub cut : (worked losing_script 61).answer ≡ negsuc 47
+  pub cut_listed : (worked losing_script 61).listing ≡ take 47 losing_listing ++ replicate 14 0
+
+-- the tables and servers that a script leaves
+abbrev pub left : List ℕ → Model
+left script = (replayed run_model script (model unmade (map (λ bytes. made bytes 0) memories)) (replicate 600 0)).runner
+
+-- the sets of the members that are missing then, of each of the three groups
+abbrev pub missing : List ℕ → List ℕ
+missing script = let m = left script in map (missing_set m.tables (meanings m.row)) (0 ∷ 1 ∷ 2 ∷ [])
+
+pub record WorkedMissing : Type 0 where
+  -- none is where nothing is written yet
+  pub made : missing (codes "call,number,value\nmake,3,-") ≡ 0 ∷ 0 ∷ 0 ∷ []
+  -- server 0, then 0 and 1; a rebuild that fails mends none
+  pub one : missing (codes "call,number,value\nmake,3,-\nout,0,10\nout,1,20\nfall,0,-") ≡ 1 ∷ 0 ∷ 0 ∷ []
+  pub two : missing losing_script ≡ 3 ∷ 0 ∷ 0 ∷ []
+  -- server 2 in both full groups
+  pub full : missing (codes "call,number,value\nmake,3,2\nout,0,1\nout,1,2\nout,2,3\nout,3,4\nout,0,5\nout,1,6\nout,0,7\nout,1,8\nfall,2,-") ≡ 4 ∷ 4 ∷ 0 ∷ []
+  -- group 0 was cleaned and has no members; server 3 has none in the open group
+  pub cleaned : missing cleaning_script ≡ 0 ∷ 8 ∷ 0 ∷ []
+  -- a parity slot counts only where the group is closed
+  pub parity : missing (cleaning_script ++ codes "\nback,3,-\nrebuild,3,-\nfall,4,-") ≡ 0 ∷ 256 ∷ 0 ∷ []
