@@ -1,5 +1,5 @@
 -- A rebuild's turns joined, and what a server is once it was brought back.
-use Rattle.std.proofs.Common.{◌≡◌, ℕ, ◌<◌, Bool, true, false, List, [], ◌∷◌, ◌++◌, Ok, Result, refl, ap, ◌∙◌, subst, ⊎_elim}
+use Rattle.std.proofs.Common.{◌≡◌, ℕ, ◌<◌, Bool, true, false, List, [], ◌∷◌, ◌++◌, Ok, Result, refl, sym, ap, ◌∙◌, subst, inl, inr, ⊎_elim}
 use Rattle.std.proofs.lemmas.Bool.{cases_lt}
 use Rattle.page.specs.declared.faults.Fault.{Fault}
 use Rattle.server.specs.Meaning.{Meaning}
@@ -9,11 +9,12 @@ use Rattle.parity_log.specs.declared.records.Shape.{Shape}
 use Rattle.parity_log.specs.Tables.{within}
 use Rattle.law.specs.Law.{Thread, ended, between, stepping}
 use Rattle.law.specs.Rows.{Row}
-use Rattle.law.specs.Runs.{Moment, Turn, Run, steps}
+use Rattle.law.specs.Runs.{Moment, Turn, Run, returns, steps}
+use Rattle.parity_log.specs.declared.records.Counts.{Counts}
 use Rattle.parity_log.specs.Reading.{Finding}
-use Rattle.pager.specs.Moments.{Turns}
+use Rattle.pager.specs.Moments.{AtMost, Turns}
 use Rattle.pager.specs.Pulls.{HandsOn, Meets}
-use Rattle.law_runs.specs.Restoring.{Advances}
+use Rattle.law_runs.specs.Restoring.{Advances, Repaired, Restored}
 
 run_joined : (ts us : List Turn) (m n o : Moment) → Run m ts n → Run n us o → Run m (ts ++ us) o
 run_joined [] us m n o h i = subst (λ (x : Moment). Run x us o) h i
@@ -57,3 +58,13 @@ module _ {B : Type 0} (count : B → ℕ) (means : B → ℕ → Meaning) (b e :
       go : (w : Bool) → within s ≡ w → BroughtBack x (count b) (means b) (means e)
       go true w = let moved = hands.made w in ⊎_elim (λ here. is_back (Ok u) refl here (moved.here here)) (λ past. let no = (moved.past past).0 in cc) (cases_lt x (count b))
       go false w = let no = (hands.not_made w).0 in cc
+
+-- a run goes on with at most one turn
+goes_on : (us : List Turn) (t : Turn) (w m n : Moment) → Run w us m → AtMost m t n → (vs : List Turn) × Run w vs n
+goes_on us t w m n run (inl same) = (us, subst (λ (x : Moment). Run w us x) (sym same) run)
+goes_on us t w m n run (inr happens) = (us ++ (t ∷ []), run_joined us (t ∷ []) w m n run (n, happens, refl))
+
+pub repaired : (x : ℕ) (m n : Moment) (counts : Counts) → Restored x m n counts → Repaired x m n counts
+repaired x m n counts r start well ts us lawful to_well healthy run only visited kept =
+    let on = goes_on us (returns x) well m r.begun run r.came_back in
+    lawful.a_rebuild_restores_all ts on.0 well r.begun n x to_well healthy on.1 (r.rebuilt visited kept) only

@@ -2,7 +2,7 @@
 use Rattle.std.specs.Prelude.{◌≡◌, ℕ, ◌<◌, true, List}
 use Rattle.parity_log.specs.declared.records.Counts.{Counts}
 use Rattle.parity_log.specs.declared.records.Progress.{Progress}
-use Rattle.law.specs.Law.{Thread, Rebuilt}
+use Rattle.law.specs.Law.{Healthy, Lawful, NothingMissing, OnlyAt, Rebuilt, Thread}
 use Rattle.law.specs.Runs.{Moment, Turn, Run, returns}
 use Rattle.pager.specs.Moments.{AtMost}
 
@@ -22,3 +22,9 @@ pub record Restored (x : ℕ) (m n : Moment) (counts : Counts) : Type 0 where
   pub era : (begun.row x).era ≡ (m.row x).era
   -- where nothing is unvisited and it kept its era to the end, it is rebuilt as the law has it
   pub rebuilt : counts.unvisited ≡ 0 → (n.row x).era ≡ (m.row x).era → Rebuilt x begun n
+
+-- what this brings: where all was well at some moment of a lawful run, and no server but x has another era since, nothing is missing now
+abbrev pub Repaired : ℕ → Moment → Moment → Counts → Type 0
+Repaired x m n counts =
+    (start well : Moment) (ts us : List Turn) → Lawful start → Run start ts well → Healthy well → Run well us m → OnlyAt x well n
+    → counts.unvisited ≡ 0 → (n.row x).era ≡ (m.row x).era → NothingMissing n

@@ -1,4 +1,4 @@
-ghost use Rattle.law_runs.specs.Restoring.{Advances, Restored};
+ghost use Rattle.law_runs.specs.Restoring.{Advances, Repaired, Restored};
 ghost use Rattle.pager.specs.Moments.{moment_of};
 ghost use Rattle.std.specs.Prelude.{IfOk};
 
@@ -31,7 +31,8 @@ pub fn restore<B: PullableBank>(
     groups: usize,
     pageouts: &[(usize, u8)],
 ) -> Result<Counts, Fault>
-    ensures { IfOk result (λ counts. Restored server (moment_of B.Bank.count B.Bank.means pager.old.log) (moment_of B.Bank.count B.Bank.means pager.new.log) counts) }
+    ensures restored { IfOk result (λ counts. Restored server (moment_of B.Bank.count B.Bank.means pager.old.log) (moment_of B.Bank.count B.Bank.means pager.new.log) counts) }
+    ensures repaired { IfOk result (λ counts. Repaired server (moment_of B.Bank.count B.Bank.means pager.old.log) (moment_of B.Bank.count B.Bank.means pager.new.log) counts) }
 {
     pager.back(server)?;
     let mut job = pager.begin(server)?;

@@ -9,13 +9,12 @@ use Rattle.parity_log.specs.declared.records.GroupState.{GroupState}
 use Rattle.parity_log.specs.declared.records.GroupState.TheVariants.{Free, Open, Closed}
 use Rattle.parity_log.specs.Tables.{with_page, page_at, state_of, is_open}
 use Rattle.parity_log.specs.Choices.{when_open, open_group, next_free, free_count, fewest_live}
-use Rattle.parity_log.specs.Order.{Cleaning, Limited, Sound, Settled}
+use Rattle.parity_log.specs.Order.{Cleaning, Settled}
 use Rattle.parity_log.specs.Owners.{Changes}
 use Rattle.parity_log.specs.Reading.{LogRule, read, found, missed}
 use Rattle.parity_log.specs.Paging.{place, moved, move, move_all, clean, release, opened, open_next_rule, with_open, Ready, ready}
-use Rattle.parity_log.proofs.Bounds.{shape_bounds}
 use Rattle.parity_log.proofs.ChangesLaws.{changes_place, changes_lose}
-use Rattle.parity_log.proofs.CleaningLaws.{clean_group, clean_page}
+use Rattle.parity_log.proofs.CleaningLaws.{clean_page}
 use Rattle.parity_log.proofs.OpeningLaws.{open_last}
 use Rattle.parity_log.proofs.RuleLaws.{Leads, leads_bind, leads_give, ends_bind, ends_give, ends_note}
 use Rattle.pager.specs.Places.{placed_as}
@@ -34,10 +33,6 @@ module _ {B : Type 0} (steps : RowRule B) (v : Tables) (g c i : ℕ) (o : Option
   unfolding move
   one_is_lost p s w q lost same = rw (q, same) (ends_bind steps (read v c i) (λ r. moved v g c i p r) b e e (missed s) _ lost (ends_note steps _ (give (with_page v p (Lost c s))) e e _ (ends_give steps (with_page v p (Lost c s)) e)))
 
--- the group being cleaned and its position have a place in the tables
-pub clean_places : (v : Tables) (g c i : ℕ) → Cleaning v g c i → i < v.shape.servers → (c < 32) × (i < 8)
-clean_places v g c i h l = let s = shape_bounds v.shape h.sound.shape in let n = clean_group v g c i h in (omega (arith, s.1, n.0), omega (arith, s.5))
-
 module _ (v : Tables) (g c i p : ℕ) (h : Cleaning v g c i) (lt : i < v.shape.servers) (at : page_at v.pages c i ≡ Some p) where
   pub place_fits : (v.filled < v.shape.servers) × Changes v p (Out g v.filled)
   place_fits =
@@ -47,10 +42,6 @@ module _ (v : Tables) (g c i p : ℕ) (h : Cleaning v g c i) (lt : i < v.shape.s
 
   pub lose_fits : (m : ℕ) → Changes v p (Lost c m)
   lose_fits m = changes_lose v p c m h.sound (clean_page v g c i p h lt at).0
-
--- the moving begins with all positions
-pub move_begins : {B : Type 0} (steps : RowRule B) (b : B) (g c n : ℕ) (v : Tables) → Leads steps (move_all (range_with_len 0 n) g c v) b (move_all (range_with_len 0 (n - 0)) g c v) b
-move_begins steps b g c n v r e h = let all : n - 0 ≡ n = omega arith in subst (λ (m : ℕ). Ends steps (move_all (range_with_len 0 m) g c v) b r e) all h
 
 module _ {B : Type 0} (steps : RowRule B) (whole : LogRule Tables) (b₀ b : B) (g c i n : ℕ) (v : Tables) (inv : Leads steps whole b₀ (move_all (range_with_len i (n - i)) g c v) b) where
   pub move_more : (b' : B) (w : Tables) → i < n → Ends steps (move v g c i (page_at v.pages c i)) b w b' → Leads steps whole b₀ (move_all (range_with_len (i + 1) (n - (i + 1))) g c w) b'

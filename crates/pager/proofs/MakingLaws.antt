@@ -15,7 +15,6 @@ use Rattle.law.proofs.Lawful.{Ready, lawful}
 use Rattle.bank.specs.Rows.{RowRule, Rowed}
 use Rattle.parity_log.specs.Making.{sizes, over_all, decided, made_as, made_with, making}
 use Rattle.pager.specs.Order.{Fitted, Ordered}
-use Rattle.pager.proofs.AskingLaws.{span_more}
 
 -- each of a list that passed is large enough
 pass_each : (f : ℕ → ℕ) (g a n : ℕ) → list_all (leb g) (map f (range_with_len a n)) ≡ true → (k : ℕ) → a ≤ k → k < a + n → g ≤ f k

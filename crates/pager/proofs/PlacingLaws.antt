@@ -1,5 +1,5 @@
 -- The ways through placing, releasing and closing.
-use Rattle.std.proofs.Common.{◌≡◌, ℕ, ◌+◌, ◌-◌, ◌<◌, ◌≤◌, true, false, List, is_ok, Some, None, Option, Result, refl, subst, arith, eq-eqb, ne_eqb}
+use Rattle.std.proofs.Common.{◌≡◌, ℕ, ◌+◌, ◌-◌, ◌<◌, ◌≤◌, true, false, List, is_ok, Some, None, Option, Result, refl, subst, eq-eqb, ne_eqb}
 use Rattle.std.specs.List.{range_with_len}
 use Rattle.page.specs.declared.faults.Fault.{Fault}
 use Rattle.server.specs.Calls.{to_put, to_free}
@@ -13,10 +13,6 @@ use Rattle.parity_log.specs.Paging.{place, placed, free_on, release, release_old
 use Rattle.parity_log.proofs.RuleLaws.{Leads, leads_ask, leads_give, ends_ask, ends_give}
 use Rattle.pager.specs.Places.{placed_as}
 use Rattle.pager.proofs.AskingLaws.{span_more, span_none}
-
--- the freeing begins with all servers
-pub free_begins : {B : Type 0} (steps : RowRule B) (b : B) (g n : ℕ) (v : Tables) → Leads steps (free_on (range_with_len 0 n) g v) b (free_on (range_with_len 0 (n - 0)) g v) b
-free_begins steps b g n v r e h = let all : n - 0 ≡ n = omega arith in subst (λ (m : ℕ). Ends steps (free_on (range_with_len 0 m) g v) b r e) all h
 
 pub closed_now : (v : Tables) (g : ℕ) → v.filled ≡ v.shape.servers → closed_full v g ≡ shut v g
 closed_now v g h = rw (eq-eqb v.filled v.shape.servers h) refl

@@ -8,7 +8,7 @@ use Rattle.parity_log.specs.declared.ledger.Ledger.{Ledger}
 use Rattle.parity_log.specs.declared.records.Tables.{Tables}
 use Rattle.parity_log.specs.Rule.{give, Ends}
 use Rattle.parity_log.specs.Tables.{weight}
-use Rattle.parity_log.specs.Reading.{Gathered, gather, read, restored, found, missed, or_restored}
+use Rattle.parity_log.specs.Reading.{Gathered, Reading, gather, read, restored, found, missed, or_restored}
 use Rattle.parity_log.proofs.RuleLaws.{ends_bind, ends_give, ends_ask}
 use Rattle.pager.specs.Reads.{Gathers}
 
@@ -21,16 +21,19 @@ module _ {B : Type 0} (steps : RowRule B) (v : Tables) (g i n : ℕ) (l : n ≡ 
   unfolding read
   read_own x st = ends_ask steps i (to_get g 512) (λ a. or_restored v g i a) b e e (Ok x) (found x) (whole_get steps b e i g n (Ok x) l st) (ends_give steps (found x) e)
 
-  module _ (m : B) (f : Fault) (st : steps b i (to_get g n) (Err f) m) (q : Gathered) (run : Ends steps (gather v g i) m q e) where
-    read_others : Ends steps (read v g i) b (restored v i q) e
-    unfolding read
-    read_others = ends_ask steps i (to_get g 512) (λ a. or_restored v g i a) b m e (Err f) _ (whole_get steps b m i g n (Err f) l st) (ends_bind steps (gather v g i) (λ r. give (restored v i r)) m e e q _ run (ends_give steps _ e))
+  pub read_after : (m : B) (f : Fault) (r : Reading) → steps b i (to_get g n) (Err f) m → Ends steps (or_restored v g i (Err f)) m r e → Ends steps (read v g i) b r e
+  unfolding read
+  read_after m f r st run = ends_ask steps i (to_get g 512) (λ a. or_restored v g i a) b m e (Err f) r (whole_get steps b m i g n (Err f) l st) run
 
-    pub read_restored : (p : Page) → Gathers q (Ok p) → Ends steps (read v g i) b (found p.0) e
-    read_restored p h = rw (eq-eqb q.missing 0 h.0, h.1) at read_others
+module _ {B : Type 0} (steps : RowRule B) (v : Tables) (g i : ℕ) (m e : B) (q : Gathered) (run : Ends steps (gather v g i) m q e) (f : Fault) where
+  others : Ends steps (or_restored v g i (Err f)) m (restored v i q) e
+  others = ends_bind steps (gather v g i) (λ r. give (restored v i r)) m e e q _ run (ends_give steps _ e)
 
-    pub read_missed : (s : ℕ) → Gathers q (Err s) → Ends steps (read v g i) b (missed (s + weight v.shape.servers i)) e
-    read_missed s h = rw (ne_eqb q.missing 0 (λ z. h.1 (sym h.0 ∙ z)), h.0) at read_others
+  pub restored_found : (p : Page) → Gathers q (Ok p) → Ends steps (or_restored v g i (Err f)) m (found p.0) e
+  restored_found p h = rw (eq-eqb q.missing 0 h.0, h.1) at others
+
+  pub restored_missed : (s : ℕ) → Gathers q (Err s) → Ends steps (or_restored v g i (Err f)) m (missed (s + weight v.shape.servers i)) e
+  restored_missed s h = rw (ne_eqb q.missing 0 (λ z. h.1 (sym h.0 ∙ z)), h.0) at others
 
 -- a weight is the same where the tables are
 pub own_weight : (l k : Ledger) (i w : ℕ) → l ≡ k → w ≡ weight l.tables.shape.servers i → w ≡ weight k.tables.shape.servers i

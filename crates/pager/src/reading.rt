@@ -1,5 +1,6 @@
-ghost use Rattle.std.specs.Prelude.{◌≡◌, ◌<◌, length, IfErr};
-ghost use Rattle.parity_log.specs.Reading.{Gathered, gather as gather_rule, read as read_rule};
+ghost use Rattle.std.specs.Prelude.{◌≡◌, ◌<◌, length, IfErr, Err as Denied};
+ghost use Rattle.page.specs.declared.faults.Fault.{Fault as Refused};
+ghost use Rattle.parity_log.specs.Reading.{Gathered, gather as gather_rule, or_restored, read as read_rule};
 ghost use Rattle.parity_log.specs.Rule.{Ends};
 ghost use Rattle.pager.specs.Reads.{AskedOne, Gathers, Unread, reading_of};
 
@@ -49,6 +50,24 @@ impl<B: Bank> Log<B> {
         if missing == 0 { Ok(sum) } else { Err(missing) }
     }
 
+    // The page at a position from all other members, its own having refused, whatever its fault; answers the missing set where it can't.
+    fn restore(&mut self, group: usize, position: usize, buffer: &mut [u8]) -> Result<(), u16>
+        requires group { group < 32 }
+        requires position { position < 8 }
+        requires whole { length buffer.old ≡ 512 }
+        ensures tables { self.new.ledger ≡ self.old.ledger }
+        ensures ran { (f : Refused) → Ends B.Bank.steps (or_restored self.old.ledger.tables group position (Denied f)) self.old.bank (reading_of result buffer.new) self.new.bank }
+        ensures left { Unread result buffer.old buffer.new }
+    {
+        match self.gather(group, position) {
+            Ok(sum) => {
+                buffer.copy_from_slice(&sum.0);
+                Ok(())
+            }
+            Err(others) => Err(others + self.ledger.tables.shape.weight(position)),
+        }
+    }
+
     // Reads the page at a position: from its own member, or else from all the others; answers the missing set where it can't.
     pub(crate) fn read(
         &mut self,
@@ -63,15 +82,9 @@ impl<B: Bank> Log<B> {
         ensures ran { Ends B.Bank.steps (read_rule self.old.ledger.tables group position) self.old.bank (reading_of result buffer.new) self.new.bank }
         ensures left { Unread result buffer.old buffer.new }
     {
-        let Err(_) = self.bank.get(position, group, buffer) else {
-            return Ok(());
-        };
-        match self.gather(group, position) {
-            Ok(sum) => {
-                buffer.copy_from_slice(&sum.0);
-                Ok(())
-            }
-            Err(others) => Err(others + self.ledger.tables.shape.weight(position)),
+        match self.bank.get(position, group, buffer) {
+            Ok(_) => Ok(()),
+            Err(_) => self.restore(group, position, buffer),
         }
     }
 }

@@ -1,6 +1,9 @@
 -- How many of the numbers that follow each other pass two tests, compared.
-use Rattle.std.proofs.Common.{◌≡◌, ℕ, zero, suc, ◌+◌, ◌<◌, ◌≤◌, Bool, true, false, cond, not, ◌&&◌, eqb, count_by, refl, ap, ◌∙◌, ⊎_elim, arith}
+use Rattle.std.proofs.Common.{◌≡◌, ℕ, zero, suc, ◌+◌, ◌<◌, ◌≤◌, Bool, true, false, cond, not, ◌&&◌, eqb, count_by, refl, ap, sym, ◌∙◌, ⊎_elim, arith}
 use Rattle.std.specs.List.{range_with_len}
+use mir.Val.{bool_byte}
+use Rattle.std.proofs.lemmas.List.{map-id}
+use Rattle.std.proofs.lemmas.List.FromFn.{sum_by-map-range_with_len_more}
 use Rattle.std.proofs.lemmas.List.Sums.{sum_by-cons}
 use Rattle.std.proofs.lemmas.Bool.{cases_eq, both_ways, eq-eqb, ne_eqb, and_from, and_parts, and_right, not_from_true, not_from_false}
 use Rattle.parity_log.proofs.Counting.{all_counting, sum_by_both, counted_once}
@@ -60,3 +63,17 @@ count_two q n g h l m ne t u =
       count_one p n h m (and_from (q h) (not (eqb h g)) u (not_from_false (eqb h g) (ne_eqb h g ne))),
       count_less p q 0 n g (omega arith) (omega arith) (λ k e. (and_parts (q k) (not (eqb k g)) e).0) (and_right (q g) (not (eqb g g)) (not_from_true (eqb g g) (eq-eqb g g refl))) t,
     )
+
+-- one number more
+pub count_more : (p : ℕ → Bool) (n : ℕ) → count_by p (range_with_len 0 (n + 1)) ≡ count_by p (range_with_len 0 n) + cond (p n) 1 0
+count_more p n =
+    ap (λ ks. count_by p ks) (sym (map-id (range_with_len 0 (n + 1)))) ∙ sum_by-map-range_with_len_more (λ k. cond {A = ℕ} (p k) 1 0) (λ k. k) 0 n n (omega arith) ∙ ap (λ ks. count_by p ks + cond (p n) 1 0) (map-id (range_with_len 0 n))
+
+-- a bool as a number, which is at most one
+pub as_cond : (b : Bool) → bool_byte b ≡ cond b 1 0
+as_cond true = refl
+as_cond false = refl
+
+pub at_most_one : (b : Bool) → cond {A = ℕ} b 1 0 ≤ 1
+at_most_one true = omega arith
+at_most_one false = omega arith

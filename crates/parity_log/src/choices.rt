@@ -1,9 +1,17 @@
-ghost use Rattle.std.specs.Prelude.{◌≡◌, ◌<◌, ◌≤◌, Some as Chosen};
+ghost use Rattle.std.specs.Prelude.{◌≡◌, ◌+◌, ◌%◌, ◌<◌, ◌≤◌, Some as Chosen};
 ghost use Rattle.parity_log.specs.Choices.{LastWithin, fewest_live, free_count, next_free, open_group, start};
 ghost use Rattle.parity_log.specs.Tables.{is_closed, is_free, live, state_of};
 
 use crate::ledger::Ledger;
 use crate::records::{GroupState, Tables};
+
+// A number less than twice round, brought back into the round.
+fn round(at: usize, groups: usize) -> usize
+    requires { at < groups + groups }
+    ensures { result ≡ at % groups }
+{
+    if at < groups { at } else { at - groups }
+}
 
 impl Tables {
     // The open group, if one is.
@@ -19,9 +27,11 @@ impl Tables {
         requires { self.now.shape.groups ≤ 32 }
         ensures { result ≡ free_count self.now }
     {
-        (0..self.shape.groups)
-            .filter(|group| self.is_free(*group))
-            .count()
+        let mut free = 0;
+        for group in 0..self.shape.groups {
+            free += usize::from(self.is_free(group));
+        }
+        free
     }
 
     pub fn is_free(&self, group: usize) -> bool
@@ -58,7 +68,7 @@ impl Tables {
         let start = self.start();
         let mut far = 0;
         let next = loop {
-            let group = (start + far) % groups;
+            let group = round(start + far, groups);
             if self.is_free(group) {
                 break group;
             }

@@ -61,9 +61,11 @@ impl Ledger {
         requires servers { self.now.tables.shape.servers ≤ 8 }
         ensures { result ≡ live self.now.tables group }
     {
-        (0..self.tables.shape.servers)
-            .filter(|position| self.page_at(group, *position).is_some())
-            .count()
+        let mut live = 0;
+        for position in 0..self.tables.shape.servers {
+            live += usize::from(self.page_at(group, position).is_some());
+        }
+        live
     }
 }
 

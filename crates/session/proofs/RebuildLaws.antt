@@ -1,5 +1,5 @@
 -- A rebuild's steps, one after the other.
-use Rattle.std.proofs.Common.{◌≡◌, ℕ, suc, ◌+◌, ◌-◌, ◌<◌, ◌≤◌, Result, Ok, Err, sym, subst, arith}
+use Rattle.std.proofs.Common.{◌≡◌, ℕ, suc, ◌+◌, ◌-◌, ◌<◌, ◌≤◌, Result, Ok, sym, subst, arith}
 use Rattle.page.specs.declared.faults.Fault.{Fault}
 use Rattle.bank.specs.Rows.{RowRule}
 use Rattle.parity_log.specs.declared.records.Progress.{Progress}
@@ -17,9 +17,6 @@ module _ {B : Type 0} (steps : RowRule B) (v : Tables) (first : Progress) (start
   -- after k of n steps the job is j and the bank is b
   abbrev pub Come : ℕ → Progress → B → Type 0
   Come k j b = Leads steps (stepping n v first) start (stepping (n - k) v j) b
-
-  pub none_yet : Come 0 first start
-  none_yet r e run = let q : n - 0 ≡ n = omega arith in rw q at run
 
   pub one_more : (k : ℕ) (j : Progress) (b : B) (w : Tables) (a : Result (Unit {0}) Fault) (further : Progress) (m : B) → k < n → w ≡ v → Come k j b → Ends steps (step w j) b (stepped a further) m → Come (k + 1) further m
   one_more k j b w a further m below same come run =
@@ -39,9 +36,3 @@ module _ {B : Type 0} (steps : RowRule B) (v : Tables) (first : Progress) (start
       let P : Result Progress Fault → Type 0 = λ x. Ends steps (rebuild_begun n v x) start a b in
       let Q : Result Detail Fault → Type 0 = λ x. Ends steps (rebuild_begun n v (Ok first)) start x b in
       subst P begun (subst Q (sym said) (ends_bind steps (stepping n v first) (λ l. give (Ok (groups_of (counts l)))) start b b j (Ok (groups_of (counts j))) (all_come k j b past come) (ends_give steps (Ok (groups_of (counts j))) b)))
-
-pub not_begun : {B : Type 0} (steps : RowRule B) (v : Tables) (server : ℕ) (b : B) (f : Fault) (a : Result Detail Fault) → Err f ≡ begin v server → a ≡ Err f → Ends steps (rebuild v server) b a b
-not_begun steps v server b f a refused said =
-    let P : Result Progress Fault → Type 0 = λ x. Ends steps (rebuild_begun v.shape.groups v x) b a b in
-    let Q : Result Detail Fault → Type 0 = λ x. Ends steps (rebuild_begun v.shape.groups v (Err f)) b x b in
-    subst P refused (subst Q (sym said) (ends_give steps (Err f) b))

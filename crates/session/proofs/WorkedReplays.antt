@@ -6,7 +6,7 @@ use Rattle.parity_log.specs.Paging.{place, free_on, release, release_old, close_
 use Rattle.parity_log.specs.Reading.{asking, gather, read, pagein_from, pagein}
 use Rattle.parity_log.specs.Rebuilding.{put_back, mend, visit, step}
 use Rattle.parity_log.specs.Tables.{page_at, live_count}
-use Rattle.session.specs.Worked.{WorkedMissing, WorkedReplays}
+use Rattle.session.specs.Worked.{WorkedMissing, WorkedOrder, WorkedReplays}
 
 pub worked_replays : WorkedReplays
 unfolding digits put_back mend visit step asking gather read pagein_from pagein page_at live_count next_free free_count fewest_live place free_on release release_old close_full move move_all clean open_next_rule with_open judged ending steps pageout free
@@ -15,3 +15,7 @@ worked_replays = record { losing = refl; losing_listed = refl; none_run = refl; 
 pub worked_missing : WorkedMissing
 unfolding digits put_back mend visit step asking gather read pagein_from pagein page_at live_count next_free free_count fewest_live place free_on release release_old close_full move move_all clean open_next_rule with_open judged ending steps pageout free
 worked_missing = record { made = refl; one = refl; two = refl; full = refl; cleaned = refl; parity = refl }
+
+pub worked_order : WorkedOrder
+unfolding digits put_back mend visit step asking gather read pagein_from pagein page_at live_count next_free free_count fewest_live place free_on release release_old close_full move move_all clean open_next_rule with_open judged ending steps pageout free
+worked_order = record { closing = refl; cleaning = refl }

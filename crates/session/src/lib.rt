@@ -5,14 +5,15 @@ mod memories;
 mod running;
 
 ghost use Rattle.session.specs.ShapeLaws.{ShapeLaws};
-ghost use Rattle.session.specs.Worked.{WorkedMissing, WorkedReplays};
+ghost use Rattle.session.specs.Worked.{WorkedMissing, WorkedOrder, WorkedReplays};
 
 pub use memories::replay_over_five;
 pub use running::Session;
 
-// Only a making makes a pager, and only once; and two replays come to what was worked out by hand.
+// Only a making makes a pager, and only once. And two scripts come to what was worked out by hand: the listings, the members that are missing, and what servers are asked in which order.
 pub fn session_stands()
     ensures shape { ShapeLaws }
     ensures worked { WorkedReplays }
     ensures missing { WorkedMissing }
+    ensures order { WorkedOrder }
 {}

@@ -17,12 +17,12 @@ fn take<'a>(server: &mut Memory<'a>) -> Memory<'a>
 
 // Runs a script over these servers.
 fn replay_on(
+    script: &[u8],
     a: &mut Memory<'_>,
     b: &mut Memory<'_>,
     c: &mut Memory<'_>,
     d: &mut Memory<'_>,
     parity: &mut Memory<'_>,
-    script: &[u8],
     listing: &mut [u8],
 ) -> i64
     ensures replayed { listed result (store_of a.new ∷ store_of b.new ∷ store_of c.new ∷ store_of d.new ∷ store_of parity.new ∷ []) listing.new ≡ replay_on script.now (store_of a.old ∷ store_of b.old ∷ store_of c.old ∷ store_of d.old ∷ store_of parity.old ∷ []) listing.old }
@@ -62,12 +62,12 @@ pub fn replay_over_five(
     let mut fourth = Memory::new(d, 0);
     let mut last = Memory::new(parity, 0);
     replay_on(
+        script,
         &mut first,
         &mut second,
         &mut third,
         &mut fourth,
         &mut last,
-        script,
         listing,
     )
 }

@@ -1,6 +1,6 @@
 use Rattle.session.proofs.ShapeFacts.{shape_laws}
-use Rattle.session.proofs.WorkedReplays.{worked_missing, worked_replays}
+use Rattle.session.proofs.WorkedReplays.{worked_missing, worked_order, worked_replays}
 use Rattle.session.proofs.session_stands.Goals as goal
 
 pub returns : goal.returns
-returns c = record { shape = shape_laws; worked = worked_replays; missing = worked_missing }
+returns c = record { shape = shape_laws; worked = worked_replays; missing = worked_missing; order = worked_order }

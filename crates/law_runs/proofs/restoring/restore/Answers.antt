@@ -1,6 +1,7 @@
 use Rattle.std.proofs.Common.{sym, ◌∙◌}
 use Rattle.pager.specs.Moments.{moment_of}
-use Rattle.law_runs.proofs.Rebuilds.{nothing_yet, joined, done_back}
+use Rattle.law_runs.specs.Restoring.{Restored}
+use Rattle.law_runs.proofs.Rebuilds.{nothing_yet, joined, done_back, repaired}
 use Rattle.law_runs.proofs.restoring.restore.Goals as goal
 
 pub loop-group-init : goal.loop-group-init
@@ -14,6 +15,7 @@ returns g c =
     let bank = g.B.Bank in
     let back = done_back bank.count bank.means c.args.pager.now.log.bank c.back.new.self.log.bank c.args.server c.args.pager.now.log.ledger.tables.shape c.in_ok-back.field-0 c.in_ok-back.ensures.meets in
     let run = c.loop-group.invariant in
+    let restored : Restored _ _ _ _ =
     record {
       begun = moment_of bank.count bank.means c.back.new.self.log;
       there = back.there;
@@ -33,4 +35,5 @@ returns g c =
         visited = visited;
         era = kept ∙ sym back.era;
       };
-    }
+    } in
+    record { restored = restored; repaired = repaired _ _ _ _ restored }

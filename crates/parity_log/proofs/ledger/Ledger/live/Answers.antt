@@ -1,11 +1,19 @@
-use Rattle.std.proofs.Common.{is_some, rules}
-use borrow.Author.Tests.{tests}
+use Rattle.std.proofs.Common.{ℕ, is_some, refl, ap, ◌∙◌, arith}
+use mir.Val.{bool_byte}
 use Rattle.parity_log.specs.Tables.{page_at, live_count}
-use Rattle.parity_log.proofs.SearchLaws.{count_below}
+use Rattle.parity_log.proofs.CountLaws.{count_more, as_cond, at_most_one}
 use Rattle.parity_log.proofs.ledger.Ledger.live.Goals as goal
 
-pub returns : goal.returns
+pub loop-position-init : goal.loop-position-init
 unfolding live_count
-returns c =
-    let v = c.args.self.now.tables in
-    count_below (λ i. is_some (page_at v.pages c.args.group i)) v.shape.servers c.filter.ensures.source c.filter.ensures.closure (λ k b q e. search (rules, tests)) _ c.count.ensures.ran
+loop-position-init c = (refl, omega arith)
+
+pub loop-position-preserved : goal.loop-position-preserved
+unfolding live_count
+loop-position-preserved c =
+    let p = λ (i : ℕ). is_some (page_at c.args.self.now.tables.pages c.args.group i) in
+    let i = c.loop-position.position in
+    let one = c.from-live.ensures ∙ ap bool_byte (c.is_some.ensures ∙ ap is_some c.page_at.ensures) ∙ as_cond (p i) in (
+      omega (arith, c.loop-position.invariant.0, count_more p i, one),
+      omega (arith, c.loop-position.invariant.1, one, at_most_one (p i)),
+    )

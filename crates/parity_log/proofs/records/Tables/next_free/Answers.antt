@@ -26,8 +26,11 @@ loop-group-preserved c =
     let s = some_free v c.requires.spare in
     let here = c.start-start.result in
     let below : here < v.shape.groups = subst (λ n. n < v.shape.groups) (sym c.start-start.ensures) (start_below v.last v.shape.groups (omega (arith, s.1))) in
-    let none = below_more (λ k. is_free (state_of v ((here + k) % v.shape.groups)) ≡ false) c.loop-group.far c.loop-group.invariant.1 (sym c.if-is_free.ensures) in
+    let none = below_more (λ k. is_free (state_of v ((here + k) % v.shape.groups)) ≡ false) c.loop-group.far c.loop-group.invariant.1 (ap (λ g. is_free (state_of v g)) (sym c.round-group.ensures) ∙ sym c.if-is_free.ensures) in
     (not_round (λ g. is_free (state_of v g)) here v.shape.groups (c.loop-group.far + 1) below s none, none)
 
 pub returns : goal.returns
-returns c = next_is c.args.self.now c.start-start.result c.loop-group.far c.start-start.ensures c.loop-group.invariant.0 (sym c.if-is_free.ensures) c.loop-group.invariant.1
+returns c =
+    let v = c.args.self.now in
+    let free = ap (λ g. is_free (state_of v g)) (sym c.round-group.ensures) ∙ sym c.if-is_free.ensures in
+    next_is v c.start-start.result c.loop-group.far c.start-start.ensures c.loop-group.invariant.0 free c.loop-group.invariant.1 ∙ ap Some (sym c.round-group.ensures)
