@@ -58,14 +58,14 @@ impl fmt::Display for Report {
             equal,
         } = *self;
         let verdict = if equal == pages { "yes" } else { "no" };
-        writeln!(f, "read       {bytes} bytes of standard input")?;
-        writeln!(
+        write!(
             f,
-            "kept       {pages} pages of {PAGE_SIZE} bytes on each half of a mirror"
-        )?;
-        writeln!(f, "fell       the first half, which came back empty")?;
-        writeln!(f, "read back  {pages} pages")?;
-        write!(f, "equal      {verdict}, {equal} of {pages}")
+            "read       {bytes} bytes of standard input\n\
+             kept       {pages} pages of {PAGE_SIZE} bytes on each half of a mirror\n\
+             fell       the first half, which came back empty\n\
+             read back  {pages} pages\n\
+             equal      {verdict}, {equal} of {pages}"
+        )
     }
 }
 

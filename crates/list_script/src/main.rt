@@ -1,12 +1,11 @@
 //! Lists the script on standard input: replays it over a pager on five memories, and prints the listing.
 #![tactic(auto)]
 
-ghost use Rattle.replay.specs.Listing.{answer_of};
 ghost use Rattle.session.specs.Memories.{replay_over};
-ghost use Rattle.std.specs.Prelude.{◌≡◌, replicate, take};
+ghost use Rattle.std.specs.Prelude.{◌≡◌, replicate};
 
 use anyhow::bail;
-use replay::Full;
+use replay::{Full, outcome_of, written_part};
 use session::replay_over_five;
 use std::io::{Read, Write};
 
@@ -26,33 +25,13 @@ fn list(script: &[u8], listing: &mut [u8]) -> i64
     replay_over_five(script, &mut a, &mut b, &mut c, &mut d, &mut parity, listing)
 }
 
-// What a replay's answer says: how many bytes it wrote, or behind how many the next line did not fit.
-fn outcome_of(answer: i64) -> Result<usize, Full>
-    ensures { answer ≡ answer_of result }
-{
-    if answer >= 0 {
-        Ok(answer as usize)
-    } else {
-        Err(Full {
-            count: (-1 - answer) as usize,
-        })
-    }
-}
-
-// The first bytes of a listing, which are those that were written.
-fn written(listing: &[u8], count: usize) -> &[u8]
-    ensures { result.now ≡ take count listing.now }
-{
-    listing.get(..count).unwrap_or(listing)
-}
-
 fn run(rt: &HostRuntime) -> anyhow::Result<()> {
     let mut script = Vec::new(rt.alloc());
     rt.stdin().take(BYTES as u64).read_to_end(&mut script)?;
     let mut listing = [0u8; BYTES];
     let outcome = outcome_of(list(&script, &mut listing));
     let (Ok(count) | Err(Full { count })) = outcome;
-    rt.stdout().write_all(written(&listing, count))?;
+    rt.stdout().write_all(written_part(&listing, count))?;
     if outcome.is_err() {
         bail!("the listing ends here: its next line does not fit in {BYTES} bytes");
     }

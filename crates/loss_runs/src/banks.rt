@@ -24,6 +24,17 @@ impl Run {
     }
 }
 
+// Two of any kinds, and three more of one kind.
+fn drive_five<P: Pullable + Drop, Q: Pullable + Drop, R: Pullable + Drop>(
+    p: P,
+    q: Q,
+    (c, d, e): (R, R, R),
+    run: Run,
+    book: &mut Book,
+) -> Result<(), Fault> {
+    drive(Pair(p, Pair(q, Pair(c, Pair(d, Pair(e, End))))), run, book)
+}
+
 // Three that lose after two of any kinds.
 fn drive_three_more<P: Pullable + Drop, Q: Pullable + Drop>(
     p: P,
@@ -34,19 +45,47 @@ fn drive_three_more<P: Pullable + Drop, Q: Pullable + Drop>(
     let mut c = [0u8; MEMORY];
     let mut d = [0u8; MEMORY];
     let mut e = [0u8; MEMORY];
-    let rest = Pair(
+    let more = (
         run.losing(&mut c, 2),
-        Pair(run.losing(&mut d, 3), Pair(run.losing(&mut e, 4), End)),
+        run.losing(&mut d, 3),
+        run.losing(&mut e, 4),
     );
-    drive(Pair(p, Pair(q, rest)), run, book)
+    drive_five(p, q, more, run, book)
+}
+
+// A mirror of two, a server that loses beyond what it does by itself, and three that lose.
+fn drive_mixed<P: Pullable + Drop>(
+    p: P,
+    q: P,
+    r: P,
+    run: Run,
+    book: &mut Book,
+) -> Result<(), Fault> {
+    let twice = Fickle::new(r, run.seed_of(6), run.plan.odds);
+    drive_three_more(Mirror::new(p, q), twice, run, book)
+}
+
+fn drive_three<P: Pullable + Drop>(
+    p: P,
+    q: P,
+    r: P,
+    run: Run,
+    book: &mut Book,
+) -> Result<(), Fault> {
+    drive(Pair(p, Pair(q, Pair(r, End))), run, book)
 }
 
 pub fn over_three(run: Run, book: &mut Book) -> Result<(), Fault> {
     let mut a = [0u8; MEMORY];
     let mut b = [0u8; MEMORY];
     let mut c = [0u8; MEMORY];
-    let rest = Pair(run.losing(&mut b, 1), Pair(run.losing(&mut c, 2), End));
-    drive(Pair(run.losing(&mut a, 0), rest), run, book)
+    drive_three(
+        run.losing(&mut a, 0),
+        run.losing(&mut b, 1),
+        run.losing(&mut c, 2),
+        run,
+        book,
+    )
 }
 
 pub fn over_five(run: Run, book: &mut Book) -> Result<(), Fault> {
@@ -62,12 +101,18 @@ pub fn over_one_losing(run: Run, book: &mut Book) -> Result<(), Fault> {
     let mut c = [0u8; MEMORY];
     let mut d = [0u8; MEMORY];
     let mut e = [0u8; MEMORY];
-    let rest = Pair(
+    let more = (
         Memory::new(&mut c, 0),
-        Pair(Memory::new(&mut d, 0), Pair(Memory::new(&mut e, 0), End)),
+        Memory::new(&mut d, 0),
+        Memory::new(&mut e, 0),
     );
-    let bank = Pair(Memory::new(&mut a, 0), Pair(run.losing(&mut b, 1), rest));
-    drive(bank, run, book)
+    drive_five(
+        Memory::new(&mut a, 0),
+        run.losing(&mut b, 1),
+        more,
+        run,
+        book,
+    )
 }
 
 // A mirror of two that lose, a server that loses twice over, and three that lose.
@@ -75,7 +120,11 @@ pub fn over_mixed(run: Run, book: &mut Book) -> Result<(), Fault> {
     let mut a = [0u8; MEMORY];
     let mut b = [0u8; MEMORY];
     let mut f = [0u8; MEMORY];
-    let mirror = Mirror::new(run.losing(&mut a, 0), run.losing(&mut b, 1));
-    let twice = Fickle::new(run.losing(&mut f, 5), run.seed_of(6), run.plan.odds);
-    drive_three_more(mirror, twice, run, book)
+    drive_mixed(
+        run.losing(&mut a, 0),
+        run.losing(&mut b, 1),
+        run.losing(&mut f, 5),
+        run,
+        book,
+    )
 }

@@ -41,14 +41,11 @@ impl fmt::Display for Tally {
             failed,
             wrong,
         } = *self;
-        writeln!(f, "{outs} pageouts done, {lost_outs} lost, {frees} frees")?;
         write!(
             f,
-            "  pageins: {equal} as booked, {lost} lost, {none} of pages not out; "
-        )?;
-        write!(
-            f,
-            "groups: {rebuilt} rebuilt, {failed} failed; {wrong} wrong"
+            "{outs} pageouts done, {lost_outs} lost, {frees} frees\n  \
+             pageins: {equal} as booked, {lost} lost, {none} of pages not out; \
+             groups: {rebuilt} rebuilt, {failed} failed; {wrong} wrong"
         )
     }
 }

@@ -18,87 +18,104 @@ fn main(rt: HostRuntime) -> anyhow::Result<()> {
     run(&rt)
 }
 
-// What the runs over servers of these kinds came to.
+// Which servers a pager is driven over.
 #[derive(Clone, Copy)]
-struct Report<'a> {
-    servers: &'a str,
+enum Servers {
+    Three,
+    Five,
+    Mixed,
+    OneLosing,
+}
+
+impl Servers {
+    fn name(self) -> &'static str {
+        match self {
+            Servers::Three => "three memory servers",
+            Servers::Five => "five memory servers",
+            Servers::Mixed => "a mirror and four memory servers",
+            Servers::OneLosing => "one that loses and four that do not",
+        }
+    }
+
+    fn drive(self, run: Run, book: &mut Book) -> Result<(), Fault> {
+        match self {
+            Servers::Three => over_three(run, book),
+            Servers::Five => over_five(run, book),
+            Servers::Mixed => over_mixed(run, book),
+            Servers::OneLosing => over_one_losing(run, book),
+        }
+    }
+}
+
+// What the runs over these servers came to.
+#[derive(Clone, Copy)]
+struct Report {
+    servers: Servers,
     plan: Plan,
     tally: Tally,
 }
 
-impl fmt::Display for Report<'_> {
+impl fmt::Display for Report {
     fn fmt<W: fmt::Write>(&self, f: &mut fmt::Formatter<W>) -> fmt::Result {
-        let Report { servers, tally, .. } = *self;
+        let servers = self.servers.name();
         let Plan { groups, spares, .. } = self.plan;
-        write!(f, "{servers}, G {groups}, q {spares}: {tally}")
+        write!(f, "{servers}, G {groups}, q {spares}: {}", self.tally)
     }
 }
 
 // The same plan over every seed.
-fn over_seeds<F: Fn(Run, &mut Book) -> Result<(), Fault>>(
-    over: F,
-    plan: Plan,
-) -> Result<Tally, Fault>
-    requires { F.IsAlwaysCallable over }
-{
+fn over_seeds(servers: Servers, plan: Plan) -> Result<Report, Fault> {
     let mut book = Book::default();
     for seed in 0..SEEDS {
-        over(Run { plan, seed }, &mut book)?;
+        servers.drive(Run { plan, seed }, &mut book)?;
     }
-    Ok(book.tally())
-}
-
-fn show<F: Fn(Run, &mut Book) -> Result<(), Fault>>(
-    rt: &HostRuntime,
-    servers: &str,
-    over: F,
-    plan: Plan,
-) -> anyhow::Result<()>
-    requires { F.IsAlwaysCallable over }
-{
-    let tally = over_seeds(over, plan)?;
-    rt.println(Report {
+    let tally = book.tally();
+    Ok(Report {
         servers,
         plan,
         tally,
-    })?;
-    Ok(())
+    })
 }
 
-fn run(rt: &HostRuntime) -> anyhow::Result<()> {
-    let losing = Odds {
+const SIX: Plan = Plan {
+    groups: 6,
+    spares: 2,
+    calls: 1000,
+    odds: Odds {
         pages: 16,
         falls: 1,
-    };
-    let six = Plan {
-        groups: 6,
-        spares: 2,
-        calls: 1000,
-        odds: losing,
-        pulled: Pulled::AnyOf(5),
-    };
-    show(rt, "five memory servers", over_five, six)?;
-    let eight = Plan {
-        groups: 8,
-        spares: 4,
-        ..six
-    };
-    show(rt, "five memory servers", over_five, eight)?;
-    let three = Plan {
-        groups: 3,
-        pulled: Pulled::AnyOf(3),
-        ..six
-    };
-    show(rt, "three memory servers", over_three, three)?;
-    show(rt, "a mirror and four memory servers", over_mixed, six)?;
-    let one = Plan {
-        pulled: Pulled::Only(1),
-        ..six
-    };
-    show(
-        rt,
-        "one that loses and four that do not",
-        over_one_losing,
-        one,
-    )
+    },
+    pulled: Pulled::AnyOf(5),
+};
+
+const EIGHT: Plan = Plan {
+    groups: 8,
+    spares: 4,
+    ..SIX
+};
+
+const THREE: Plan = Plan {
+    groups: 3,
+    pulled: Pulled::AnyOf(3),
+    ..SIX
+};
+
+// Only the one that loses falls.
+const ONE: Plan = Plan {
+    pulled: Pulled::Only(1),
+    ..SIX
+};
+
+fn run(rt: &HostRuntime) -> anyhow::Result<()> {
+    for (servers, plan) in [
+        (Servers::Five, SIX),
+        (Servers::Five, EIGHT),
+        (Servers::Three, THREE),
+        (Servers::Mixed, SIX),
+        (Servers::OneLosing, ONE),
+    ] {
+        let report = over_seeds(servers, plan)?;
+        rt.println(report)?;
+    }
+    Ok(())
 }

@@ -52,11 +52,14 @@ impl fmt::Display for Tally {
             frees,
             checksum,
         } = *self;
-        writeln!(f, "calls     {calls}")?;
-        writeln!(f, "pageouts  {pageouts} done")?;
-        writeln!(f, "pageins   {pageins} done, {none} refused as none")?;
-        writeln!(f, "frees     {frees} done")?;
-        write!(f, "checksum  {checksum}")
+        write!(
+            f,
+            "calls     {calls}\n\
+             pageouts  {pageouts} done\n\
+             pageins   {pageins} done, {none} refused as none\n\
+             frees     {frees} done\n\
+             checksum  {checksum}"
+        )
     }
 }
 

@@ -6,7 +6,7 @@ mod draws;
 mod load;
 
 use anyhow::Context;
-use bank::{End, Pair};
+use bank::{Bank, End, Pair};
 use draws::Draws;
 use load::Tally;
 use memory::Memory;
@@ -29,6 +29,12 @@ const SEED: u64 = 1;
 // Where the program is given no number.
 const CALLS: u32 = 100000;
 
+fn drive<B: Bank + Drop>(bank: B, calls: u32) -> Result<Tally, Fault> {
+    let mut pager = Pager::new(bank);
+    pager.make(GROUPS, SPARES)?;
+    load::drive(&mut pager, calls, Draws::new(SEED))
+}
+
 // Four data servers and the parity server, none of which ever falls.
 fn over_five(calls: u32) -> Result<Tally, Fault> {
     let mut a = [0u8; MEMORY];
@@ -43,9 +49,8 @@ fn over_five(calls: u32) -> Result<Tally, Fault> {
             Pair(Memory::new(&mut parity, 0), End),
         ),
     );
-    let mut pager = Pager::new(Pair(Memory::new(&mut a, 0), Pair(Memory::new(&mut b, 0), rest)));
-    pager.make(GROUPS, SPARES)?;
-    load::drive(&mut pager, calls, Draws::new(SEED))
+    let bank = Pair(Memory::new(&mut a, 0), Pair(Memory::new(&mut b, 0), rest));
+    drive(bank, calls)
 }
 
 // How many calls to make: the program's argument.

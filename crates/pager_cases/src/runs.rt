@@ -92,6 +92,14 @@ struct Run {
 }
 
 impl Run {
+    fn drive<B: Bank + Drop>(self, bank: B) -> Result<Report, Fault> {
+        let mut pager = Pager::new(bank);
+        self.shape.make(&mut pager)?;
+        let mut tally = Tally::default();
+        calls(&mut pager, &mut tally)?;
+        Ok(Report { run: self, tally })
+    }
+
     fn over_five(self) -> Result<Report, Fault> {
         let mut a = [0u8; MEMORY];
         let mut b = [0u8; MEMORY];
@@ -103,11 +111,7 @@ impl Run {
             Memory::new(&mut c, 0),
             Pair(Memory::new(&mut d, 0), Pair(Memory::new(&mut e, 0), End)),
         );
-        let mut pager = Pager::new(Pair(Memory::new(&mut a, 0), Pair(second, rest)));
-        self.shape.make(&mut pager)?;
-        let mut tally = Tally::default();
-        calls(&mut pager, &mut tally)?;
-        Ok(Report { run: self, tally })
+        self.drive(Pair(Memory::new(&mut a, 0), Pair(second, rest)))
     }
 }
 
@@ -129,13 +133,10 @@ impl fmt::Display for Report {
             wrong,
             ..
         } = self.tally;
-        writeln!(
-            f,
-            "{shape}, server 1 at era {era}: {outs} pageouts, {frees} frees"
-        )?;
         write!(
             f,
-            "  pageins: {equal} as booked, {none} of pages not out, {wrong} wrong"
+            "{shape}, server 1 at era {era}: {outs} pageouts, {frees} frees\n  \
+             pageins: {equal} as booked, {none} of pages not out, {wrong} wrong"
         )
     }
 }

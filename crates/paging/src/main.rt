@@ -70,21 +70,27 @@ impl fmt::Display for Report {
             equal,
         } = *self;
         let verdict = if equal == pages { "yes" } else { "no" };
-        writeln!(
+        write!(
             f,
-            "bank       4 data servers and a parity server; data server 1 is down"
-        )?;
-        writeln!(
-            f,
-            "made       {GROUPS} groups, {SPARES} of them spare: room for {capacity} pages"
-        )?;
-        writeln!(
-            f,
-            "paged out  {pages} pages, {ROUNDS} times as test pages and then as they are"
-        )?;
-        writeln!(f, "paged in   {pages} pages")?;
-        write!(f, "equal      {verdict}, {equal} of {pages}")
+            "bank       4 data servers and a parity server; data server 1 is down\n\
+             made       {GROUPS} groups, {SPARES} of them spare: room for {capacity} pages\n\
+             paged out  {pages} pages, {ROUNDS} times as test pages and then as they are\n\
+             paged in   {pages} pages\n\
+             equal      {verdict}, {equal} of {pages}"
+        )
     }
+}
+
+// Makes a pager over this bank and exercises it with these pages.
+fn drive<B: Bank + Drop>(bank: B, pages: &[[u8; PAGE_SIZE]]) -> Result<Report, Fault> {
+    let mut pager = Pager::new(bank);
+    let capacity = pager.make(GROUPS, SPARES)?;
+    let equal = exercise(&mut pager, pages)?;
+    Ok(Report {
+        capacity,
+        pages: pages.len(),
+        equal,
+    })
 }
 
 // A memory server at its last era is down from the start.
@@ -101,17 +107,8 @@ fn over_five(pages: &[[u8; PAGE_SIZE]]) -> Result<Report, Fault> {
             Pair(Memory::new(&mut parity, 0), End),
         ),
     );
-    let mut pager = Pager::new(Pair(
-        Memory::new(&mut a, 0),
-        Pair(Memory::new(&mut b, u32::MAX), rest),
-    ));
-    let capacity = pager.make(GROUPS, SPARES)?;
-    let equal = exercise(&mut pager, pages)?;
-    Ok(Report {
-        capacity,
-        pages: pages.len(),
-        equal,
-    })
+    let second = Memory::new(&mut b, u32::MAX);
+    drive(Pair(Memory::new(&mut a, 0), Pair(second, rest)), pages)
 }
 
 fn run(rt: &HostRuntime) -> anyhow::Result<Report> {

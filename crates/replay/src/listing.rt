@@ -1,5 +1,5 @@
 ghost use Rattle.replay.specs.Listing.{answer_of, answer_text, answer_word, called, count_after, detail_text, header, CountsWithin, line_of, missing_text, refusal_text, run_entry, unread_entry, written};
-ghost use Rattle.std.specs.Prelude.{◌≡◌, ◌+◌, ◌^◌, ◌<◌, ◌≤◌, ◌++◌, codes, decimal};
+ghost use Rattle.std.specs.Prelude.{◌≡◌, ◌+◌, ◌^◌, ◌<◌, ◌≤◌, ◌++◌, codes, decimal, take};
 
 use crate::script::Call;
 use arrayvec::ArrayString;
@@ -189,4 +189,24 @@ pub fn answer_of(outcome: Result<usize, Full>) -> i64
         Ok(count) => count as i64,
         Err(full) => -1 - full.count as i64,
     }
+}
+
+// What a replay's answer says: how many bytes it wrote, or behind how many the next line did not fit.
+pub fn outcome_of(answer: i64) -> Result<usize, Full>
+    ensures { answer ≡ answer_of result }
+{
+    if answer >= 0 {
+        Ok(answer as usize)
+    } else {
+        Err(Full {
+            count: (-1 - answer) as usize,
+        })
+    }
+}
+
+// The first bytes of a listing, which are those that were written.
+pub fn written_part(listing: &[u8], count: usize) -> &[u8]
+    ensures { result.now ≡ take count listing.now }
+{
+    listing.get(..count).unwrap_or(listing)
 }

@@ -86,11 +86,7 @@ pub fn call_lines(script: &[u8]) -> Result<Parts<'_>, Fault>
 fn is_plain(digits: &[u8]) -> bool
     ensures { result ≡ is_plain digits.now }
 {
-    match digits {
-        [] => false,
-        [digit] => digit.is_ascii_digit(),
-        [digit, ..] => digit.is_ascii_digit() && *digit != b'0',
-    }
+    matches!(digits, [b'0'] | [b'1'..=b'9', ..])
 }
 
 // The number that decimal digits write. Each number has one spelling, so no sign and no leading zeros.
@@ -167,9 +163,8 @@ fn read_call(line: &[u8]) -> Option<Call>
     ensures { result ≡ read_call line.now }
 {
     let mut fields = Parts::new(line, b',');
-    let (word, number, value) = (fields.next()?, fields.next()?, fields.next()?);
-    match fields.next() {
-        None => call_of(word, number, value),
-        Some(_) => None,
+    match (fields.next(), fields.next(), fields.next(), fields.next()) {
+        (Some(word), Some(number), Some(value), None) => call_of(word, number, value),
+        _ => None,
     }
 }

@@ -1,4 +1,4 @@
-//! Prints what page servers answer at the edges: sizes, bad lengths and slots, last eras, mirrors with a half down, banks.
+//! Prints the refusals' numbers, and what page servers answer at the edges: sizes, bad lengths and slots, last eras, mirrors with a half down, banks.
 #![tactic(auto)]
 
 mod banks;
@@ -6,12 +6,14 @@ mod calls;
 mod memories;
 mod mirrors;
 mod outcome;
+mod refusals;
 
 fn main(rt: HostRuntime) -> anyhow::Result<()> {
     run(&rt)
 }
 
 fn run(rt: &HostRuntime) -> anyhow::Result<()> {
+    refusals::numbers(rt)?;
     memories::sizes(rt)?;
     memories::bad_calls(rt)?;
     memories::slots(rt)?;

@@ -1,12 +1,16 @@
-use crate::calls::{self, get_page, life, put_value};
-use crate::outcome::Outcome;
+use crate::calls::{self, free_page, get_page, life, put_value};
+use crate::outcome::tell;
 use memory::Memory;
 use server::PageServer;
 
+fn slots_of(rt: &HostRuntime, len: usize) -> anyhow::Result<usize> {
+    let mut bytes = vec![in rt.alloc(); 0u8; len]?;
+    Ok(Memory::new(&mut bytes, 0).size())
+}
+
 pub fn sizes(rt: &HostRuntime) -> anyhow::Result<()> {
     for len in [0usize, 511, 512, 1023, 1024, 32767, 32768, 33280] {
-        let mut bytes = vec![in rt.alloc(); 0u8; len]?;
-        let size = Memory::new(&mut bytes, 0).size();
+        let size = slots_of(rt, len)?;
         println!(rt; "memory of {len} bytes: {size} slots")?;
     }
     Ok(())
@@ -27,22 +31,37 @@ pub fn bad_calls(rt: &HostRuntime) -> anyhow::Result<()> {
     calls::bad_calls(rt, "memory", &mut Memory::new(&mut bytes, 0), &cases)
 }
 
-// The last slot of the largest memory, its neighbours, and what a free leaves.
+// A memory of one page more than it has slots.
 pub fn slots(rt: &HostRuntime) -> anyhow::Result<()> {
     let mut bytes = vec![in rt.alloc(); 0u8; 33280]?;
-    let mut server = Memory::new(&mut bytes, 0);
-    let last = put_value(&mut server, 63, 63);
-    let past = put_value(&mut server, 64, 64);
-    println!(rt; "memory of 65 pages: put at 63 {last}; at 64 {past}")?;
-    let before = put_value(&mut server, 62, 62);
-    let again = put_value(&mut server, 63, 163);
-    let got = get_page(&mut server, 63);
-    println!(rt; "put at 62 {before}; again at 63 {again}; get at 63 {got}")?;
-    let freed = Outcome(server.free(63));
-    let none = get_page(&mut server, 63);
-    let other = get_page(&mut server, 62);
-    println!(rt; "free at 63 {freed}; get at 63 {none}; at 62 {other}")?;
-    Ok(())
+    last_slots(rt, &mut Memory::new(&mut bytes, 0))
+}
+
+// The last slot of the largest memory, its neighbours, and what a free leaves.
+fn last_slots<S: PageServer>(rt: &HostRuntime, server: &mut S) -> anyhow::Result<()> {
+    tell(
+        rt,
+        &[
+            ("memory of 65 pages: put at 63", put_value(server, 63, 63)),
+            ("at 64", put_value(server, 64, 64)),
+        ],
+    )?;
+    tell(
+        rt,
+        &[
+            ("put at 62", put_value(server, 62, 62)),
+            ("again at 63", put_value(server, 63, 163)),
+            ("get at 63", get_page(server, 63)),
+        ],
+    )?;
+    tell(
+        rt,
+        &[
+            ("free at 63", free_page(server, 63)),
+            ("get at 63", get_page(server, 63)),
+            ("at 62", get_page(server, 62)),
+        ],
+    )
 }
 
 // Eras at the last but one and the last, and one far below.

@@ -1,5 +1,5 @@
 use crate::calls::{self, get_page, life, put_value};
-use crate::outcome::Outcome;
+use crate::outcome::{Life, Outcome, tell};
 use memory::Memory;
 use mirror::{Half, Mirror};
 use server::{PageServer, Pullable};
@@ -13,12 +13,16 @@ pub fn sizes(rt: &HostRuntime) -> anyhow::Result<()> {
         (512, 1024),
         (33280, 32768),
     ] {
-        let mut first = vec![in rt.alloc(); 0u8; one]?;
-        let mut second = vec![in rt.alloc(); 0u8; two]?;
-        let size = Mirror::new(Memory::new(&mut first, 0), Memory::new(&mut second, 0)).size();
+        let size = slots_of(rt, one, two)?;
         println!(rt; "mirror of {one} and {two} bytes: {size} slots")?;
     }
     Ok(())
+}
+
+fn slots_of(rt: &HostRuntime, one: usize, two: usize) -> anyhow::Result<usize> {
+    let mut first = vec![in rt.alloc(); 0u8; one]?;
+    let mut second = vec![in rt.alloc(); 0u8; two]?;
+    Ok(Mirror::new(Memory::new(&mut first, 0), Memory::new(&mut second, 0)).size())
 }
 
 // Halves of two slots and of three.
@@ -37,21 +41,37 @@ pub fn bad_calls(rt: &HostRuntime) -> anyhow::Result<()> {
     calls::bad_calls(rt, "mirror", &mut server, &cases)
 }
 
-// A half that fell lacks its page, and takes new ones once it is back.
 pub fn one_half_down(rt: &HostRuntime) -> anyhow::Result<()> {
     let mut first = [0u8; 512];
     let mut second = [0u8; 512];
     let mut server = Mirror::new(Memory::new(&mut first, 0), Memory::new(&mut second, 0));
-    let both = put_value(&mut server, 0, 1);
+    lose_halves(rt, &mut server)
+}
+
+// A half that fell lacks its page, and takes new ones once it is back.
+fn lose_halves<P: Pullable, Q: Pullable>(
+    rt: &HostRuntime,
+    server: &mut Mirror<P, Q>,
+) -> anyhow::Result<()> {
+    let both = put_value(server, 0, 1);
     server.fall_half(Half::First);
-    let other = get_page(&mut server, 0);
-    println!(rt; "mirror: put {both}; first half fell: get {other}")?;
-    let one = put_value(&mut server, 0, 2);
-    let back = Outcome(server.back_half(Half::First));
+    let other = get_page(server, 0);
+    tell(
+        rt,
+        &[("mirror: put", both), ("first half fell: get", other)],
+    )?;
+    let one = put_value(server, 0, 2);
+    let back = Outcome::of_call(server.back_half(Half::First));
     server.fall_half(Half::Second);
-    let none = get_page(&mut server, 0);
-    println!(rt; "put {one}; first half back {back}; second half fell: get {none}")?;
-    Ok(())
+    let none = get_page(server, 0);
+    tell(
+        rt,
+        &[
+            ("put", one),
+            ("first half back", back),
+            ("second half fell: get", none),
+        ],
+    )
 }
 
 // Eras of the halves: one worn, and both.
@@ -62,11 +82,15 @@ pub fn lives(rt: &HostRuntime) -> anyhow::Result<()> {
         (0, u32::MAX),
         (u32::MAX, u32::MAX),
     ] {
-        let mut first = [0u8; 512];
-        let mut second = [0u8; 512];
-        let mut server = Mirror::new(Memory::new(&mut first, one), Memory::new(&mut second, two));
-        let answers = life(&mut server, 3);
+        let answers = life_of(one, two);
         println!(rt; "mirror, eras {one} and {two}: {answers}")?;
     }
     Ok(())
+}
+
+fn life_of(one: u32, two: u32) -> Life {
+    let mut first = [0u8; 512];
+    let mut second = [0u8; 512];
+    let mut server = Mirror::new(Memory::new(&mut first, one), Memory::new(&mut second, two));
+    life(&mut server, 3)
 }

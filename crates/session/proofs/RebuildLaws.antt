@@ -18,6 +18,12 @@ module _ {B : Type 0} (steps : RowRule B) (v : Tables) (first : Progress) (start
   abbrev pub Come : ℕ → Progress → B → Type 0
   Come k j b = Leads steps (stepping n v first) start (stepping (n - k) v j) b
 
+  pub none_come : Come 0 first start
+  none_come =
+      let q : n ≡ n - 0 = omega arith in
+      let P : ℕ → Type 0 = λ i. Leads steps (stepping n v first) start (stepping i v first) start in
+      subst P q (λ r e run. run)
+
   pub one_more : (k : ℕ) (j : Progress) (b : B) (w : Tables) (a : Result (Unit {0}) Fault) (further : Progress) (m : B) → k < n → w ≡ v → Come k j b → Ends steps (step w j) b (stepped a further) m → Come (k + 1) further m
   one_more k j b w a further m below same come run =
       let q : n - k ≡ suc (n - (k + 1)) = omega (arith, below) in

@@ -1,9 +1,9 @@
 ghost use Rattle.memory.specs.Stands.{store_of};
-ghost use Rattle.session.specs.Memories.{listed, replay_on, replay_over};
+ghost use Rattle.session.specs.Memories.{ReplaysAsModelled, listed, replay_on, replay_over};
 ghost use Rattle.std.specs.Prelude.{◌≡◌, ◌∷◌, []};
 
 use crate::running::Session;
-use bank::{End, Pair};
+use bank::{End, Pair, PullableBank};
 use memory::Memory;
 use replay::replay;
 use std::mem::replace;
@@ -13,6 +13,15 @@ fn take<'a>(server: &mut Memory<'a>) -> Memory<'a>
     ensures { result ≡ server.old }
 {
     replace(server, Memory::new(&mut [], 0))
+}
+
+// Runs a script on a pager over this bank, and hands the bank back.
+fn replay_bank<B: PullableBank>(bank: B, script: &[u8], listing: &mut [u8]) -> (i64, B)
+    ensures { ReplaysAsModelled B.Bank.count B.Bank.means B.Bank.steps B.PullableBank.falls B.PullableBank.backs script.now bank listing.old result.0 result.1 listing.new }
+{
+    let mut session = Session::new(bank);
+    let answer = replay(&mut session, script, listing);
+    (answer, session.into_bank())
 }
 
 // Runs a script over these servers.
@@ -33,9 +42,9 @@ fn replay_on(
     ensures lends_parity { parity.new.bytes.ghost_name ≡ parity.old.bytes.ghost_name }
 {
     let rest = Pair(take(c), Pair(take(d), Pair(take(parity), End)));
-    let mut session = Session::new(Pair(take(a), Pair(take(b), rest)));
-    let answer = replay(&mut session, script, listing);
-    let Pair(first, Pair(second, Pair(third, Pair(fourth, Pair(last, End))))) = session.into_bank();
+    let bank = Pair(take(a), Pair(take(b), rest));
+    let (answer, left) = replay_bank(bank, script, listing);
+    let Pair(first, Pair(second, Pair(third, Pair(fourth, Pair(last, End))))) = left;
     *a = first;
     *b = second;
     *c = third;

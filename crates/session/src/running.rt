@@ -21,9 +21,8 @@ impl<B: PullableBank> Session<B> {
         ensures bank { result.pager.log.bank ≡ bank }
         ensures tables { result.pager.log.ledger.tables ≡ unmade }
     {
-        Session {
-            pager: Pager::new(bank),
-        }
+        let pager = Pager::new(bank);
+        Session { pager }
     }
 
     // The first byte of a page.

@@ -1,7 +1,12 @@
-use Rattle.std.proofs.Common.{Ok, ap, ◌∙◌, arith}
+use Rattle.std.proofs.Common.{Ok, ap, ◌∙◌, arith, refl}
 use Rattle.session.specs.Calls.{groups_of}
-use Rattle.session.proofs.RebuildLaws.{closed, one_more}
+use Rattle.session.proofs.RebuildLaws.{closed, none_come, one_more}
 use Rattle.session.proofs.running.Session.rebuild.Goals as goal
+
+pub loop-init : goal.loop-init
+loop-init g c =
+    let before = c.args.self.now.pager.log in
+    record { tables = refl; come = none_come g.B.Bank.steps before.ledger.tables c.in_ok-job.job.progress before.bank }
 
 pub loop-preserved : goal.loop-preserved
 loop-preserved g c =

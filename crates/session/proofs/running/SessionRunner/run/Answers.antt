@@ -11,3 +11,6 @@ returns-in-Out g c =
     let P : List ℕ → Type 0 = λ x. Ends g.B.Bank.steps (pageout old.ledger.tables c.in-Out.page x) old.bank (told c.pageout.result new.ledger.tables) new.bank in
     let said : c.map.result ≡ done c.pageout.result = search rules in
     rw c.in-Out.is (c.pageout.result, subst P c.of_value.ensures c.pageout.ensures.ran, said)
+
+pub returns-in-Fall : goal.returns-in-Fall
+returns-in-Fall g c = rw c.in-Fall.is search rules

@@ -1,0 +1,12 @@
+use Rattle.std.proofs.Common.{Ok, ap, refl, rules}
+use Rattle.page.specs.Pages.{page_size}
+use Rattle.parity_log.specs.Reading.{pagein}
+use Rattle.parity_log.specs.Rule.{Ends}
+use Rattle.session.proofs.running.Session.read_first.Goals as goal
+
+pub returns : goal.returns
+returns g c =
+    let old = c.args.self.now.pager.log in
+    let new = c.pagein.new.self.log in
+    let ran : Ends g.B.Bank.steps (pagein old.ledger.tables c.args.page page_size) old.bank (Ok c.pagein.new.buffer) new.bank = search rules in
+    (Ok c.pagein.new.buffer, ran, refl, ap (λ l. l.tables) c.in_ok-pagein.ensures.tables)
