@@ -5,11 +5,12 @@ mod reading_back;
 mod restoring;
 mod stories;
 
-use bank::{End, Pair};
+use bank::{Bank, End, Pair, PullableBank};
 use memory::Memory;
-use page::{PAGE_SIZE, Page};
+use page::{Fault, PAGE_SIZE, Page};
 use pager::Pager;
 use reading_back::write_then_read;
+use server::Pullable;
 use stories::{GROUPS, STORIES, Story, tell};
 
 const SPARES: usize = 2;
@@ -17,32 +18,42 @@ const SPARES: usize = 2;
 const MEMORY: usize = GROUPS * PAGE_SIZE;
 
 // Two data servers and a parity server.
-type Three<'a> = Pair<Memory<'a>, Pair<Memory<'a>, Pair<Memory<'a>, End>>>;
+fn three<S: Pullable + Drop>(first: S, second: S, parity: S) -> Pair<S, Pair<S, Pair<S, End>>> {
+    Pair(first, Pair(second, Pair(parity, End)))
+}
 
-fn three<'a>(a: &'a mut [u8], b: &'a mut [u8], c: &'a mut [u8]) -> Three<'a> {
-    let rest = Pair(Memory::new(b, 0), Pair(Memory::new(c, 0), End));
-    Pair(Memory::new(a, 0), rest)
+fn tell_over<B: PullableBank + Drop>(
+    rt: &HostRuntime,
+    bank: B,
+    story: Story<'_>,
+) -> anyhow::Result<()> {
+    let mut pager = Pager::new(bank);
+    pager.make(GROUPS, SPARES)?;
+    tell(rt, &mut pager, story)
 }
 
 fn over_three(rt: &HostRuntime, story: Story<'_>) -> anyhow::Result<()> {
     let mut a = [0u8; MEMORY];
     let mut b = [0u8; MEMORY];
     let mut c = [0u8; MEMORY];
-    let mut pager = Pager::new(three(&mut a, &mut b, &mut c));
-    pager.make(GROUPS, SPARES)?;
-    tell(rt, &mut pager, story)
+    let (first, second) = (Memory::new(&mut a, 0), Memory::new(&mut b, 0));
+    tell_over(rt, three(first, second, Memory::new(&mut c, 0)), story)
 }
 
-// A page written and read back over a pager just made.
+// The first byte of a page written and read back over a pager not made before.
+fn first_back<B: Bank + Drop>(bank: B) -> Result<u8, Fault> {
+    let mut buffer = [0u8; PAGE_SIZE];
+    write_then_read(&mut Pager::new(bank), &Page::of_value(10).0, &mut buffer)?;
+    Ok(buffer[0])
+}
+
 fn read_back(rt: &HostRuntime) -> anyhow::Result<()> {
     let mut a = [0u8; MEMORY];
     let mut b = [0u8; MEMORY];
     let mut c = [0u8; MEMORY];
-    let mut pager = Pager::new(three(&mut a, &mut b, &mut c));
-    let mut buffer = [0u8; PAGE_SIZE];
-    write_then_read(&mut pager, &Page::of_value(10).0, &mut buffer)?;
-    let first = buffer[0];
-    println!(rt; "written and read back: {first}")?;
+    let (first, second) = (Memory::new(&mut a, 0), Memory::new(&mut b, 0));
+    let byte = first_back(three(first, second, Memory::new(&mut c, 0)))?;
+    println!(rt; "written and read back: {byte}")?;
     Ok(())
 }
 
