@@ -1,12 +1,13 @@
 -- A server whose slots were all freed holds nothing.
-use Rattle.std.proofs.Common.{◌≡◌, ℕ, zero, suc, ◌<◌, ◌≤◌, refl, ap, ◌∙◌, ⊎_elim, arith}
+use Rattle.std.proofs.Common.{◌≡◌, ℕ, zero, suc, ◌<◌, ◌≤◌, refl, ap, ap₂, ◌∙◌, ⊎_elim, arith}
 use Rattle.std.proofs.lemmas.Bool.{cases_eq, cases_lt}
 use Rattle.server.specs.Meaning.{Meaning, nothing, Empty}
 use Rattle.server.specs.Calls.{to_free}
 use Rattle.server.specs.Steps.{Fine, Lawful}
 use Rattle.mirror.specs.Rule.{Rule}
 use Rattle.mirror.specs.Sweep.{Swept}
-use Rattle.mirror.specs.Leaving.{emptied, asked}
+use Rattle.mirror.specs.Joined.{first_of, Paired}
+use Rattle.mirror.specs.Leaving.{emptied, asked, not_held}
 
 module _ {S : Type 0} {meaning : S → Meaning} {r : Rule S} (laws : Lawful meaning r) (s : S) where
   record Cleared (n : ℕ) (t : S) : Type 0 where
@@ -35,3 +36,6 @@ module _ {S : Type 0} {meaning : S → Meaning} {r : Rule S} (laws : Lawful mean
   swept_empty n e t sw k =
       let b = clears n (omega arith) t sw in
       ⊎_elim (b.freed k) (λ q. (laws.sound t).past k (omega (arith, b.size))) (cases_lt k n)
+
+pub paired_empty : {m n : Meaning} → Empty m → Empty n → Paired m n
+paired_empty {m} e f = record { agree = λ k p q x y. not_held (m.held k) p (e k) x; past = λ k _. ap₂ first_of (e k) (f k) }

@@ -23,6 +23,10 @@ pass_each f g a (suc n) h k from below =
     let both = and_parts (leb g (f a)) (list_all (leb g) (map f (range_with_len (a + 1) n))) h in
     ⊎_elim (λ same. subst (λ (j : ℕ). g ≤ f j) (sym same) (leb-true g (f a) both.0)) (λ other. pass_each f g (a + 1) n both.1 k (omega arith) (omega arith)) (cases_eq k a)
 
+-- nothing is decided where there is a shape already
+pub not_twice : (v : Tables) (count : ℕ) (means : ℕ → Meaning) (g q : ℕ) → within v.shape ≡ true → None ≡ decided v count means g q
+not_twice v count means g q has = rw has refl
+
 -- a shape is decided where it is the one over all servers, and they can have it
 decided_is : (v : Tables) (count : ℕ) (means : ℕ → Meaning) (g q : ℕ) (s : Shape) → Some s ≡ decided v count means g q → (s ≡ over_all count g q) × (accepts s (sizes count means) ≡ true)
 decided_is v count means g q s e = go (within v.shape) (accepts (over_all count g q) (sizes count means)) refl e

@@ -1,14 +1,18 @@
--- The ways through a step of a rebuild: refused at the door, or let in.
-use Rattle.std.proofs.Common.{◌≡◌, None, Err, refl}
+-- The ways through a begin and a step of a rebuild: refused at the door, or let in.
+use Rattle.std.proofs.Common.{◌≡◌, ℕ, ◌≤◌, None, Ok, Err, refl, rules}
 use Rattle.page.specs.declared.faults.Fault.{Fault}
 use Rattle.bank.specs.Rows.{RowRule}
 use Rattle.parity_log.specs.declared.records.Progress.{Progress}
+use Rattle.parity_log.specs.declared.records.Shape.{Shape}
 use Rattle.parity_log.specs.declared.records.Tables.{Tables}
 use Rattle.parity_log.specs.Rule.{Ends}
-use Rattle.parity_log.specs.Faults.{refused_by}
-use Rattle.parity_log.specs.Rebuilding.{Stepped, stepped, misfit, step_unless, step}
+use Rattle.parity_log.specs.Faults.{made_shape, refused_by}
+use Rattle.parity_log.specs.Rebuilding.{begun, begin, Stepped, stepped, misfit, step_unless, step}
 use Rattle.pager.specs.Admitted.{AdmittedJob}
 use Rattle.pager.proofs.Admitting.{refused_at, let_in}
+
+pub begin_let_in : (v : Tables) (s : Shape) (k : ℕ) → Ok s ≡ made_shape v → k ≤ s.servers → Ok (begun s k) ≡ begin v k
+begin_let_in v s k made low = search rules
 
 module _ {B : Type 0} (steps : RowRule B) (v : Tables) (j : Progress) (b e : B) where
   pub step_refused : (f : Fault) → Err f ≡ refused_by (misfit v j) → Ends steps (step v j) b (stepped (Err f) j) b

@@ -13,3 +13,10 @@ returns-in_err-admit g c =
     let p = err_from_is_err_and r c.from_residual.ensures.1 in
     let out = pagein_refused bank.steps old.ledger.tables c.args.page _ old.bank old.bank x r _ p.0 p.1 p.2 c.in_err-admit.ensures in
     record { ran = out.0; tables = refl; left = out.1; turn = pagein_turn bank.count bank.means bank.steps bank.laws old old refl c.args.page _ _ out.0 }
+
+-- and otherwise what the call let in did
+pub returns-clause-ran : goal.returns-clause-ran
+returns-clause-ran g c = c.pagein_admitted.ensures.ran
+
+pub returns-clause-turn : goal.returns-clause-turn
+returns-clause-turn g c = c.pagein_admitted.ensures.turn
