@@ -2,7 +2,8 @@
 
 The compiler refuses these before anything is proved, so they can't be edits of must-fail/, which a
 proof has to refuse. An edit has the lines `file:` (from the top), `old:` (standing once in that file),
-`new:` and `error:`. Each is applied by itself to a copy of the repository.
+`new:` and `error:`. Each is applied by itself to a copy of the repository, and a program that calls
+its library is compiled there.
 
 Run: python3 tools/refused.py
 """
@@ -16,6 +17,8 @@ import tempfile
 
 TOP = pathlib.Path(__file__).resolve().parent.parent
 KEYS = ["file", "old", "new", "error"]
+# calls each library that an edit stands in
+PROGRAM = "law_runs"
 
 
 class Unfit(Exception):
@@ -34,18 +37,19 @@ def refusal(top, edit):
     """The line by which the compiler refuses the edit, in a copy of the repository that is left as it was."""
     name, old, new, error = read(edit)
     file = top / name
-    crate = top.joinpath(*pathlib.PurePath(name).parts[:2])
     text = file.read_text(encoding="utf-8") if file.is_file() else ""
     if text.count(old) != 1:
         raise Unfit(f"its old text stands {text.count(old)} times in {name}")
     file.write_text(text.replace(old, new), encoding="utf-8")
     try:
-        said = subprocess.run(["rt", "try"], cwd=crate, text=True, stdout=subprocess.PIPE, stderr=subprocess.STDOUT)
+        said = subprocess.run(
+            ["rt", "try"], cwd=top / "crates" / PROGRAM, text=True, stdout=subprocess.PIPE, stderr=subprocess.STDOUT
+        )
     finally:
         file.write_text(text, encoding="utf-8")
     if said.returncode == 0:
-        raise Unfit("the crate compiles all the same")
-    at = re.escape(str(file.relative_to(crate)))
+        raise Unfit("the program compiles all the same")
+    at = re.escape(str(file))
     line = re.search(rf"^{at}:\d+:\d+: error\[{re.escape(error)}\].*", said.stdout, re.MULTILINE)
     if not line:
         last = "\n".join(said.stdout.splitlines()[-20:])
@@ -57,7 +61,7 @@ def main():
     edits = sorted((TOP / "refused").glob("*.edit"))
     failed = 0 if edits else 1
     with tempfile.TemporaryDirectory(prefix="refused-") as room:
-        top = pathlib.Path(room) / "copy"
+        top = pathlib.Path(room).resolve() / "copy"
         shutil.copytree(TOP / "crates", top / "crates", ignore=shutil.ignore_patterns("out"))
         shutil.copy(TOP / "crates.txt", top)
         for edit in edits:

@@ -1,1 +1,2 @@
 pub mod Befalling
+pub mod Outliving

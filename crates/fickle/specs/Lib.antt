@@ -3,3 +3,4 @@ pub mod Rule
 pub mod Leaving
 pub mod Thinning
 pub mod Laws
+pub mod Outliving

@@ -51,8 +51,8 @@ pub delivered_up : {m n : Meaning} (s l : ℕ) (p : List ℕ) → Fine m (to_get
 delivered_up {m} s l p fine step = ⊎_elim (λ u. u) (λ d. not_denied (step.down fine d).0) (cases_Bool m.up)
   where
     not_denied : Denied (Ok p) s → m.up ≡ true
-    not_denied (inl x) = let e = x.1 in clash (cc)
-    not_denied (inr x) = let e = x.1 in clash (cc)
+    not_denied (inl x) = let e = x.2 in clash (cc)
+    not_denied (inr x) = let e = x.2 in clash (cc)
 
 pub get_thins : {m n : Meaning} (s l : ℕ) {a : Answer (to_get s l)} → Sound m → Fine m (to_get s l) → Step m (to_get s l) a n → Thinned m n
 get_thins s l sound fine step = record { empties = get_empties s l sound fine step; still = get_still s l fine step; down = λ d. (step.down fine d).1 }

@@ -5,6 +5,7 @@ mod draws;
 mod mishaps;
 
 ghost use Rattle.fickle.specs.Laws.{fickle_laws};
+ghost use Rattle.fickle.specs.Outliving.{PassesOn};
 ghost use Rattle.fickle.specs.Rule.{Befalls, BroughtBack, Fallen, Stepped, Strikes, Undrawn, with_losses};
 ghost use Rattle.std.specs.Prelude.{◌≡◌};
 
@@ -114,3 +115,8 @@ impl<S: Pullable> Pullable for Fickle<S> {
         self.below.back()
     }
 }
+
+/// A loss or a return of the server below, between calls, is one of the fickle server.
+pub fn fickle_stands()
+    ensures passes { PassesOn }
+{}

@@ -4,7 +4,7 @@ use Rattle.std.proofs.lemmas.Bool.{cases_eq, cases_Bool}
 use Rattle.page.specs.declared.faults.Fault.{Fault}
 use Rattle.page.specs.declared.faults.Refusal.TheVariants.{Lost}
 use Rattle.page.specs.Refusals.{same_refusal}
-use Rattle.parity_log.specs.declared.records.Tables.{Tables}
+use Rattle.parity_log.specs.LogState.{LogState}
 use Rattle.parity_log.specs.Reading.{Finding}
 use Rattle.law.specs.Rows.{Row}
 use Rattle.law.specs.Book.{Entry, has, nothing, lost, Book, written, found, heard, heard_page, refused, latest}
@@ -52,15 +52,15 @@ module _ (S : Setting) (none : S.finds → ⊥) where
   pagein_unlost (Err f) ns k l q p (inl y) said hk = rw y (refused_unlost k q p f (λ is same. elim (said.0 is).4 [ inl z ↦ hk (ap k (sym same) ∙ z) | inr z ↦ none z ]) hk)
 
   module _ (m : Moment) (k : Book) (l : Last) (at : Between S m k l) where
-    pub goes_unlost : (t : Turn) (v : Tables) (e : Row) → Goes m t v e → Calmly S m.row e → (p : ℕ) → Unlost k p → Unlost (noted k t) p
+    pub goes_unlost : (t : Turn) (v : LogState) (e : Row) → Goes m t v e → Calmly S m.row e → (p : ℕ) → Unlost k p → Unlost (noted k t) p
     goes_unlost (makes g q a) v e h eras p hk = hk
-    goes_unlost (pages_out q x a fs) v e h eras p hk = news_unlost a fs k q p (has x) (pageout_law (mode_of S) m.tables m.row k l at.ok.0 q x at.ok.1 at.settled fs _ e (quietly S m k l at _ fs _ e h eras)).news (has_unlost x) hk
+    goes_unlost (pages_out q x a fs) v e h eras p hk = news_unlost a fs k q p (has x) (pageout_law (mode_of S) m.log m.row k l at.ok.0 q x at.ok.1 at.settled fs _ e (quietly S m k l at _ fs _ e h eras)).news (has_unlost x) hk
     goes_unlost (pages_in q n a fs) v e h eras p hk =
-        let end = pagein_law (mode_of S) m.tables m.row k l at.ok.0 q at.ok.1 at.settled.sound n fs a e (quietly S m k l at _ fs _ e h.0 eras) in
+        let end = pagein_law (mode_of S) m.log m.row k l at.ok.0 q at.ok.1 at.settled.tables.sound n fs a e (quietly S m k l at _ fs _ e h.0 eras) in
         pagein_unlost a fs k (λ x. latest x fs (l x)) q p end.news end.said hk
-    goes_unlost (frees q a fs) v e h eras p hk = news_unlost a fs k q p nothing (free_law (mode_of S) m.tables m.row k l at.ok.0 q at.ok.1 at.settled fs _ e (quietly S m k l at _ fs _ e h eras)).1.news nothing_unlost hk
+    goes_unlost (frees q a fs) v e h eras p hk = news_unlost a fs k q p nothing (free_law (mode_of S) m.log m.row k l at.ok.0 q at.ok.1 at.settled fs _ e (quietly S m k l at _ fs _ e h eras)).1.news nothing_unlost hk
     goes_unlost (begins s a) v e h eras p hk = hk
-    goes_unlost (steps j a i fs) v e h eras p hk = rw (step_law (mode_of S) m.tables m.row k l at.ok.0 at.ok.1 at.settled.sound j fs _ e (quietly S m k l at _ fs _ e h.0 eras)).quiet hk
+    goes_unlost (steps j a i fs) v e h eras p hk = rw (step_law (mode_of S) m.log m.row k l at.ok.0 at.ok.1 at.settled.tables.sound j fs _ e (quietly S m k l at _ fs _ e h.0 eras)).quiet hk
     goes_unlost (closes j c) v e h eras p hk = hk
     goes_unlost (loses s) v e h eras p hk = hk
     goes_unlost (returns s) v e h eras p hk = hk
@@ -70,7 +70,7 @@ module _ (S : Setting) (none : S.finds → ⊥) where
   run_unlost [] m n k l at h eras p hk = hk
   run_unlost (t ∷ ts) m n k l at h eras p hk =
       let parts = calm_parts S m h.0 n t ts at.servers h.1 h.2 eras in
-      run_unlost ts h.0 n (noted k t) _ (turn_law S m k l at h.0 t h.1 parts.0) h.2 parts.1 p (goes_unlost m k l at t h.0.tables h.0.row h.1.goes parts.0 p hk)
+      run_unlost ts h.0 n (noted k t) _ (turn_law S m k l at h.0 t h.1 parts.0) h.2 parts.1 p (goes_unlost m k l at t h.0.log h.0.row h.1.goes parts.0 p hk)
 
   -- and so does one that was paged out
   out_unlost : (p : ℕ) (x : List ℕ) (fs : List (Finding × Row)) (after before : List Turn) (m n : Moment) (k : Book) (l : Last) → Between S m k l → Run m (before ++ (pages_out p x (Done tt) fs ∷ after)) n → Calmly S m.row n.row → Unlost (book_from k (before ++ (pages_out p x (Done tt) fs ∷ after))) p

@@ -6,9 +6,10 @@ use Rattle.page.specs.Pages.{page_size}
 use Rattle.parity_log.specs.declared.records.PageState.{PageState}
 use Rattle.parity_log.specs.declared.records.PageState.TheVariants.{NotOut, Out}
 use Rattle.parity_log.specs.declared.records.Tables.{Tables}
+use Rattle.parity_log.specs.LogState.{LogState, with_tables}
 use Rattle.parity_log.specs.Tables.{capacity, page_state, group_of, with_page}
 use Rattle.parity_log.specs.Faults.{lost_page, objection}
-use Rattle.parity_log.specs.Order.{Sound, Settled}
+use Rattle.parity_log.specs.Order.{Sound, SettledLog}
 use Rattle.parity_log.specs.Paging.{Told, told, release_old, free_unless, free}
 use Rattle.parity_log.specs.Reading.{Finding}
 use Rattle.parity_log.specs.Rule.{give, Runs}
@@ -35,7 +36,7 @@ NotLost (Err f) = f.refusal ≡ Lost → ⊥
 
 -- a page's entry made one that is out nowhere
 pub sound_nowhere : (v : Tables) (p : ℕ) (s : PageState) → Sound v → p < capacity v.shape → ((g i : ℕ) → s ≡ Out g i → ⊥) → Sound (with_page v p s)
-sound_nowhere v p s sound lt h = sound_entered v p s v.filled v.parity sound lt (omega arith) sound.filled (puts_nowhere v p s v.filled h)
+sound_nowhere v p s sound lt h = sound_entered v p s v.filled sound lt (omega arith) sound.filled (puts_nowhere v p s v.filled h)
 
 module _ (M : Mode) where
   -- nothing found, and the answer is not lost; or two members of a group may be missing
@@ -44,29 +45,29 @@ module _ (M : Mode) where
 
   -- of a call that, where it is done, writes x for the page p
   pub record Ended (p : ℕ) (x : Entry) (k : Book) (l : Last) (ns : List (Finding × Row)) (r : Told) (e : Row) : Type 0 where
-    pub settled : Settled r.tables
-    pub ok : Ok M r.tables e (heard p x r.said (found ns k)) (λ q. latest q ns (l q))
+    pub settled : SettledLog r.log
+    pub ok : Ok M r.log e (heard p x r.said (found ns k)) (λ q. latest q ns (l q))
     pub said : LostRight p (λ q. latest q ns (l q)) r.said
     pub news : News r.said ns
 
   -- refused before any server is asked
-  pub objected : (v : Tables) (b : Row) (k : Book) (l : Last) (c : ℕ → ℕ → List ℕ) (p : ℕ) (x : Entry) (f : Fault) → Settled v → Inv M v b k l c → Plain f → Ended p x k l [] (told (Err f) v) b
+  pub objected : (v : LogState) (b : Row) (k : Book) (l : Last) (c : ℕ → ℕ → List ℕ) (p : ℕ) (x : Entry) (f : Fault) → SettledLog v → Inv M v b k l c → Plain f → Ended p x k l [] (told (Err f) v) b
   objected v b k l c p x f settled inv plain = record { settled = settled; ok = (c, rw plain.not_lost inv); said = λ y. absurd (plain_lost f plain y); news = inl (refl, plain_lost f plain) }
 
-  module _ (v : Tables) (b : Row) (k : Book) (l : Last) (c : ℕ → ℕ → List ℕ) (p : ℕ) (inv : Inv M v b k l c) (settled : Settled v) where
-    unless_law : (o : Option Fault) → Objects v p page_size o → (ns : List (Finding × Row)) (r : Told) (e : Row) → Runs M.steps (free_unless o v p) b ns r e → (ns ≡ []) × Ended p nothing k l ns r e
+  module _ (v : LogState) (b : Row) (k : Book) (l : Last) (c : ℕ → ℕ → List ℕ) (p : ℕ) (inv : Inv M v b k l c) (settled : SettledLog v) where
+    unless_law : (o : Option Fault) → Objects v.tables p page_size o → (ns : List (Finding × Row)) (r : Told) (e : Row) → Runs M.steps (free_unless o v p) b ns r e → (ns ≡ []) × Ended p nothing k l ns r e
     unless_law (Some f) plain ns r e (x, y, z) = rw (x, y, z) (refl, objected v b k l c p nothing f settled inv plain)
     unless_law None fine ns r e run =
-        let sound = settled.sound in
-        let v₁ = with_page v p NotOut in
-        let sound₁ = sound_nowhere v p NotOut sound fine.1 (λ g i y. let z : ◌≡◌ {A = ℕ} 0 1 = cc in omega arith) in
+        let sound = settled.tables.sound in
+        let v₁ = with_tables v (with_page v.tables p NotOut) in
+        let sound₁ = sound_nowhere v.tables p NotOut sound fine.1 (λ g i y. let z : ◌≡◌ {A = ℕ} 0 1 = cc in omega arith) in
         let inv₁ = set_page M v b b k l c inv sound (written p nothing k) l p NotOut fine.1 (λ j ne. (written_there p j nothing k ne, refl)) (written_here p nothing k) in
-        through M.steps (release_old (group_of (page_state v p)) v₁) (λ w. give (told (Done tt) w)) b ns r e run λ w m ns₁ ns₂ first q notes.
-        let part = old_law M v₁ b (written p nothing k) l c inv₁ sound₁ (group_of (page_state v p)) ns₁ w m first in
+        through M.steps (release_old (group_of (page_state v.tables p)) v₁) (λ w. give (told (Done tt) w)) b ns r e run λ w m ns₁ ns₂ first q notes.
+        let part = old_law M v₁ b (written p nothing k) l c inv₁ sound₁ (group_of (page_state v.tables p)) ns₁ w m first in
         let quiet : ns ≡ [] = notes ∙ rw (part.quiet, q.0) refl in
         rw (quiet, q.1, q.2) (refl, record { settled = rw part.is (free_leaves v p settled fine.1); ok = part.ok; said = tt; news = inl (refl, tt) })
 
     -- a free finds nothing lost
     pub free_law : (ns : List (Finding × Row)) (r : Told) (e : Row) → Runs M.steps (free v p) b ns r e → (ns ≡ []) × Ended p nothing k l ns r e
     unfolding free
-    free_law = unless_law (objection v p page_size) (objects v p page_size)
+    free_law = unless_law (objection v.tables p page_size) (objects v.tables p page_size)

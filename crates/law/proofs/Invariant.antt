@@ -7,6 +7,7 @@ use Rattle.parity_log.specs.declared.records.PageState.TheVariants.{NotOut, Out,
 use Rattle.parity_log.specs.declared.records.GroupState.{GroupState}
 use Rattle.parity_log.specs.declared.records.GroupState.TheVariants.{Free, Open, Closed}
 use Rattle.parity_log.specs.declared.records.Tables.{Tables}
+use Rattle.parity_log.specs.LogState.{LogState}
 use Rattle.parity_log.specs.Tables.{state_of, page_state, member_count_of}
 use Rattle.parity_log.specs.Order.{Sound}
 use Rattle.parity_log.specs.Reading.{Finding}
@@ -67,31 +68,31 @@ page_booked v e c g i n o (lt, inr y) f = absurd (f y.1)
 
 module _ (M : Mode) where
   -- the servers suffice for the tables and are fit, and each group's members hold what they ought to, c
-  pub record Holds (v : Tables) (b : Row) (c : ℕ → ℕ → List ℕ) : Type 0 where
-    pub servers : v.shape.servers < M.servers
-    pub groups : v.shape.groups ≤ M.groups
+  pub record Holds (v : LogState) (b : Row) (c : ℕ → ℕ → List ℕ) : Type 0 where
+    pub servers : v.tables.shape.servers < M.servers
+    pub groups : v.tables.shape.groups ≤ M.groups
     pub fit : Fit M.servers M.good b
     pub group : (g : ℕ) → Group M v g (c g) b
 
-  pub record Inv (v : Tables) (b : Row) (k : Book) (l : Last) (c : ℕ → ℕ → List ℕ) : Type 0 where
+  pub record Inv (v : LogState) (b : Row) (k : Book) (l : Last) (c : ℕ → ℕ → List ℕ) : Type 0 where
     pub holds : Holds v b c
-    pub pages : (p : ℕ) → PageOk v b c (k p) (l p) (page_state v p)
+    pub pages : (p : ℕ) → PageOk v.tables b c (k p) (l p) (page_state v.tables p)
 
-  pub members_on_lem : (v : Tables) (b : Row) (c : ℕ → ℕ → List ℕ) (g : ℕ) → Sound v → Holds v b c → members_on v g ≤ M.servers
-  members_on_lem v b c g s h = omega (arith, members_most (state_of v g) v.shape.servers v.filled s.filled, h.servers)
+  pub members_on_lem : (v : LogState) (b : Row) (c : ℕ → ℕ → List ℕ) (g : ℕ) → Sound v.tables → Holds v b c → members_on v.tables g ≤ M.servers
+  members_on_lem v b c g s h = omega (arith, members_most (state_of v.tables g) v.tables.shape.servers v.tables.filled s.filled, h.servers)
 
-  pub shrunk_inv : (v : Tables) (b e : Row) (k : Book) (l : Last) (c : ℕ → ℕ → List ℕ) → Shrunk M.lose b e → Fit M.servers M.good e → Inv v b k l c → Inv v e k l c
+  pub shrunk_inv : (v : LogState) (b e : Row) (k : Book) (l : Last) (c : ℕ → ℕ → List ℕ) → Shrunk M.lose b e → Fit M.servers M.good e → Inv v b k l c → Inv v e k l c
   shrunk_inv v b e k l c sh fi inv = record {
     holds = record { servers = inv.holds.servers; groups = inv.holds.groups; fit = fi; group = λ g. shrunk_keeps M v g (c g) b e sh (inv.holds.group g) };
-    pages = λ p. carried v v b e c c (k p) (l p) (page_state v p) (λ g i _. carries_shrunk M.lose _ _ _ _ _ (omega arith) (λ j _. sh j g)) (inv.pages p);
+    pages = λ p. carried v.tables v.tables b e c c (k p) (l p) (page_state v.tables p) (λ g i _. carries_shrunk M.lose _ _ _ _ _ (omega arith) (λ j _. sh j g)) (inv.pages p);
   }
 
   -- a book that says the same
-  pub same_book : (v : Tables) (b : Row) (k k' : Book) (l : Last) (c : ℕ → ℕ → List ℕ) → ((p : ℕ) → k' p ≡ k p) → Inv v b k l c → Inv v b k' l c
+  pub same_book : (v : LogState) (b : Row) (k k' : Book) (l : Last) (c : ℕ → ℕ → List ℕ) → ((p : ℕ) → k' p ≡ k p) → Inv v b k l c → Inv v b k' l c
   same_book v b k k' l c same inv = record { holds = inv.holds; pages = λ p. rw (same p) (inv.pages p) }
 
   -- a page that is out found lost, two of its group's members missing
-  pub found_inv : (v : Tables) (e : Row) (k : Book) (l : Last) (c : ℕ → ℕ → List ℕ) (f : Finding) → Inv v e k l c → page_state v f.page ≡ Out f.group f.position → TwoMissing (members_on v f.group) (slots e f.group) f.position
+  pub found_inv : (v : LogState) (e : Row) (k : Book) (l : Last) (c : ℕ → ℕ → List ℕ) (f : Finding) → Inv v e k l c → page_state v.tables f.page ≡ Out f.group f.position → TwoMissing (members_on v.tables f.group) (slots e f.group) f.position
       → Inv v e (written f.page lost k) (λ q. cond (eqb f.page q) (Some (f, e)) (l q)) c
   found_inv v e k l c f inv here two = record {
     holds = inv.holds;

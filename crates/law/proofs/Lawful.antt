@@ -4,16 +4,18 @@ use Rattle.page.specs.declared.faults.Fault.{Fault}
 use Rattle.server.specs.Meaning.{Sound}
 use Rattle.parity_log.specs.declared.records.Shape.{Shape}
 use Rattle.parity_log.specs.Reading.{Finding}
-use Rattle.parity_log.specs.Tables.{within, initial}
-use Rattle.parity_log.proofs.OpeningLaws.{initial_settled}
+use Rattle.parity_log.specs.Tables.{within}
+use Rattle.parity_log.proofs.OpeningLaws.{initial_log, initial_log_settled}
 use Rattle.law.specs.Rows.{Row}
 use Rattle.law.specs.Book.{nothing, latest}
-use Rattle.law.specs.Law.{NothingMissing, Healthy, OnlyAt, Rebuilt, Lawful}
+use Rattle.law.specs.Law.{NothingMissing, Healthy, OnlyAt, SameEras, Rebuilt, Lawful}
 use Rattle.law.specs.Runs.{Moment, Turn, pages_out, pages_in, Happens, Run, book, findings, last_from, last_found}
 use Rattle.law.proofs.FreeLaw.{LostRight}
 use Rattle.law.proofs.FreshLaw.{fresh_inv}
+use Rattle.law.proofs.Invariant.{members_on_lem}
 use Rattle.law.proofs.PageinLaw.{Answered, pagein_law}
 use Rattle.law.proofs.PageoutLaw.{pageout_law}
+use Rattle.law.proofs.ReadLaws.{held_may}
 use Rattle.law.proofs.RebuildLaw.{restores}
 use Rattle.law.proofs.RunLaws.{Setting, mode_of, Between, quietly, run_law, run_era, run_servers}
 use Rattle.law.proofs.SingleLaw.{Any, Single, healthy_single, no_pageout_lost, no_pagein_lost, still_booked}
@@ -30,7 +32,7 @@ pub record Ready (s : Shape) (b : Row) : Type 0 where
 
 -- a pager just made
 abbrev pub fresh : Shape → Row → Moment
-fresh s b = record { tables = initial s; servers = s.servers + 1; row = b }
+fresh s b = record { log = initial_log s; servers = s.servers + 1; row = b }
 
 module _ (s : Shape) (b : Row) (ready : Ready s b) where
   abbrev anyone : Setting
@@ -43,15 +45,15 @@ module _ (s : Shape) (b : Row) (ready : Ready s b) where
       begins : Between anyone (fresh s b) (λ _. nothing) (λ _. None)
       begins = record {
         servers = refl;
-        settled = initial_settled s ready.shape;
+        settled = initial_log_settled s ready.shape;
         ok = (_, fresh_inv (mode_of anyone) s b (omega arith) (omega arith) (λ k lt. record { sound = ready.sound k (omega arith); up = λ y. absurd y; room = ready.room k (omega arith) }));
       }
 
   pagein_said : (ts : List Turn) (m o : Moment) (p len : ℕ) (a : Result (List ℕ) Fault) (fs : List (Finding × Row)) → Run (fresh s b) ts m → Happens m (pages_in p len a fs) o → Answered (mode_of anyone) p (book ts) (λ q. latest q fs (last_found q ts)) a
-  pagein_said ts m o p len a fs run h = let at = from_fresh ts m run in (pagein_law (mode_of anyone) m.tables m.row _ _ at.ok.0 p at.ok.1 at.settled.sound len fs a o.row (quietly anyone m _ _ at _ fs _ o.row h.goes.0 (λ j lt y. absurd y))).said
+  pagein_said ts m o p len a fs run h = let at = from_fresh ts m run in (pagein_law (mode_of anyone) m.log m.row _ _ at.ok.0 p at.ok.1 at.settled.tables.sound len fs a o.row (quietly anyone m _ _ at _ fs _ o.row h.goes.0 (λ j lt y. absurd y))).said
 
   pageout_said : (ts : List Turn) (m o : Moment) (p : ℕ) (x : List ℕ) (a : Result (Unit {0}) Fault) (fs : List (Finding × Row)) → Run (fresh s b) ts m → Happens m (pages_out p x a fs) o → LostRight p (λ q. latest q fs (last_found q ts)) a
-  pageout_said ts m o p x a fs run h = let at = from_fresh ts m run in (pageout_law (mode_of anyone) m.tables m.row _ _ at.ok.0 p x at.ok.1 at.settled fs _ o.row (quietly anyone m _ _ at _ fs _ o.row h.goes (λ j lt y. absurd y))).said
+  pageout_said ts m o p x a fs run h = let at = from_fresh ts m run in (pageout_law (mode_of anyone) m.log m.row _ _ at.ok.0 p x at.ok.1 at.settled fs _ o.row (quietly anyone m _ _ at _ fs _ o.row h.goes (λ j lt y. absurd y))).said
 
   restored : (ts us : List Turn) (m o r : Moment) (x : ℕ) → Run (fresh s b) ts m → Healthy m → Run m us o → Rebuilt x o r → OnlyAt x m r → NothingMissing r
   restored ts us m o r x run well run' job only =
@@ -61,6 +63,18 @@ module _ (s : Shape) (b : Row) (ready : Ready s b) where
       let S = Single (s.servers + 1) s.groups x in
       let then = run_law S us m o _ _ (healthy_single (s.servers + 1) s.groups x m _ _ well at) run' (λ j lt ne. omega (arith, only j (omega arith) ne, run_era job.turns o r job.run j (omega arith))) in
       restores (s.servers + 1) s.groups x o r _ _ then job (λ j lt ne. omega (arith, only j (omega arith) ne, run_era us m o run' j (omega arith)))
+
+  -- no server was left out, so no member may be missing
+  still_whole : (ts us : List Turn) (m o : Moment) → Run (fresh s b) ts m → Healthy m → Run m us o → SameEras m o → NothingMissing o
+  still_whole ts us m o run well run' same g q miss =
+      let n = s.servers + 1 in
+      let at = from_fresh ts m run in
+      let count = at.servers in
+      let S = Single n s.groups n in
+      let then = run_law S us m o _ _ (healthy_single n s.groups n m _ _ well at) run' (λ j lt ne. omega (arith, same j (omega arith))) in
+      let inv = then.ok.1 in
+      let on = members_on_lem (mode_of S) o.log o.row _ g then.settled.tables.sound inv.holds in
+      held_may _ _ _ ((inv.holds.group g).true_held q miss.0) miss.1 (λ y. omega (arith, miss.0))
 
   pub lawful : Lawful (fresh s b)
   lawful = record {
@@ -74,5 +88,6 @@ module _ (s : Shape) (b : Row) (ready : Ready s b) where
         let at = from_fresh ts m run in
         let t = pages_in p len (Err f) fs in
         no_pagein_lost (s.servers + 1) s.groups x m (book ts) _ well at us o r run' t h only p len f fs refl (still_booked (s.servers + 1) s.groups x m (book ts) _ well at us o r run' t h only p y booked) is;
+    nothing_is_missing_while_eras_stay = still_whole;
     a_rebuild_restores_all = restored;
   }

@@ -3,7 +3,7 @@ use Rattle.std.proofs.Common.{◌≡◌, ℕ, ◌+◌, ◌<◌, ◌≤◌, List,
 use Rattle.std.proofs.lemmas.Bool.{cases_eq}
 use Rattle.page.specs.declared.faults.Fault.{Fault}
 use Rattle.server.specs.Meaning.{Held, nothing, holds}
-use Rattle.parity_log.specs.declared.records.Tables.{Tables}
+use Rattle.parity_log.specs.LogState.{LogState}
 use Rattle.parity_log.specs.Tables.{others, weight}
 use Rattle.parity_log.specs.Rule.{give, Runs}
 use Rattle.parity_log.specs.Reading.{Finding, Gathered, kept, gather, Reading, found, missed, restored, or_restored, read}
@@ -35,9 +35,9 @@ still_two L n n' h h' i le sh m = record {
 }
 
 -- what was read at the position i of the group g is what it ought to hold, c, and not two were missing; or two are, and the set names the missing
-abbrev pub ReadOk : Tables → ℕ → ℕ → List ℕ → Row → Reading → Type 0
-ReadOk v g i c e (found x) = (x ≡ c) × (TwoMissing (members_on v g) (slots e g) i → ⊥)
-ReadOk v g i c e (missed s) = TwoMissing (members_on v g) (slots e g) i × (s ≡ missing_set v e g)
+abbrev pub ReadOk : LogState → ℕ → ℕ → List ℕ → Row → Reading → Type 0
+ReadOk v g i c e (found x) = (x ≡ c) × (TwoMissing (members_on v.tables g) (slots e g) i → ⊥)
+ReadOk v g i c e (missed s) = TwoMissing (members_on v.tables g) (slots e g) i × (s ≡ missing_set v.tables e g)
 
 module _ (M : Mode) where
   -- two members missing are a finding
@@ -47,36 +47,36 @@ module _ (M : Mode) where
       M.two_finds g i m.other.0 (at i m.own) (at m.other.0 m.other.2) m.other.1
 
   -- a group of the tables over a row, where its members on servers ought to hold c
-  abbrev pub Group : Tables → ℕ → (ℕ → List ℕ) → Row → Type 0
-  Group v g c b = GroupOk (M.may g) (members_on v g) (kept v g) c (slots b g)
+  abbrev pub Group : LogState → ℕ → (ℕ → List ℕ) → Row → Type 0
+  Group v g c b = GroupOk (M.may g) (members_on v.tables g) (kept v g) c (slots b g)
 
-  pub shrunk_keeps : (v : Tables) (g : ℕ) (c : ℕ → List ℕ) (b e : Row) → Shrunk M.lose b e → Group v g c b → Group v g c e
+  pub shrunk_keeps : (v : LogState) (g : ℕ) (c : ℕ → List ℕ) (b e : Row) → Shrunk M.lose b e → Group v g c b → Group v g c e
   shrunk_keeps v g c b e sh o = shrunk_group (M.may g) M.lose _ _ _ _ _ (M.may_lose g) (λ k l. sh k g) o
 
   -- the other members of a position asked, and it left alone
-  pub record Others (v : Tables) (g i : ℕ) (c : ℕ → List ℕ) (b : Row) (ns : List (Finding × Row)) (r : Gathered) (e : Row) : Type 0 where
+  pub record Others (v : LogState) (g i : ℕ) (c : ℕ → List ℕ) (b : Row) (ns : List (Finding × Row)) (r : Gathered) (e : Row) : Type 0 where
     pub quiet : ns ≡ []
     pub shrunk : Shrunk M.lose b e
     pub fit : Fit M.servers M.good e
     pub own : e i ≡ b i
-    pub all : r.missing ≡ 0 → (r.sum ≡ c i) × ((k : ℕ) → (k ≡ i → ⊥) → Missing v e g k → ⊥)
-    pub some : (r.missing ≡ 0 → ⊥) → (k : ℕ) × (k ≡ i → ⊥) × Missing v e g k
-    pub set : (e i).held g ≡ nothing → r.missing + weight v.shape.servers i ≡ missing_set v e g
+    pub all : r.missing ≡ 0 → (r.sum ≡ c i) × ((k : ℕ) → (k ≡ i → ⊥) → Missing v.tables e g k → ⊥)
+    pub some : (r.missing ≡ 0 → ⊥) → (k : ℕ) × (k ≡ i → ⊥) × Missing v.tables e g k
+    pub set : (e i).held g ≡ nothing → r.missing + weight v.tables.shape.servers i ≡ missing_set v.tables e g
 
-  pub record Reads (v : Tables) (g i : ℕ) (c : List ℕ) (b : Row) (ns : List (Finding × Row)) (r : Reading) (e : Row) : Type 0 where
+  pub record Reads (v : LogState) (g i : ℕ) (c : List ℕ) (b : Row) (ns : List (Finding × Row)) (r : Reading) (e : Row) : Type 0 where
     pub quiet : ns ≡ []
     pub shrunk : Shrunk M.lose b e
     pub fit : Fit M.servers M.good e
     pub ok : ReadOk v g i c e r
 
-  module _ (v : Tables) (g i : ℕ) (c : ℕ → List ℕ) (room : g < M.groups) (on : members_on v g ≤ M.servers) (lt : i < members_on v g) where
+  module _ (v : LogState) (g i : ℕ) (c : ℕ → List ℕ) (room : g < M.groups) (on : members_on v.tables g ≤ M.servers) (lt : i < members_on v.tables g) where
     pub others_law : (b : Row) (ns : List (Finding × Row)) (r : Gathered) (e : Row) → Fit M.servers M.good b → Group v g c b → Runs M.steps (gather v g i) b ns r e → Others v g i c b ns r e
     unfolding gather
     others_law b ns r e h o run =
-        let n = members_on v g in
-        let w = weight v.shape.servers in
-        let ks = others v g i in
-        let gs = gathers M v.shape.servers g ks (kept v g) 0 b ns r e room (all_but (λ k. k < M.servers) i 0 n (λ k _ l _. omega arith)) (apart_but i 0 n) h run in
+        let n = members_on v.tables g in
+        let w = weight v.tables.shape.servers in
+        let ks = others v.tables g i in
+        let gs = gathers M v.tables.shape.servers g ks (kept v g) 0 b ns r e room (all_but (λ k. k < M.servers) i 0 n (λ k _ l _. omega arith)) (apart_but i 0 n) h run in
         let is : r.missing ≡ weights w (slots e g) ks = gs.set ∙ omega arith in
         let o' = shrunk_keeps v g c b e gs.shrunk o in
         record {
@@ -85,7 +85,7 @@ module _ (M : Mode) where
           fit = gs.fit;
           own = gs.untouched i (all_but (λ k. k ≡ i → ⊥) i 0 n (λ k _ _ ne. ne));
           all = λ z.
-              let here = none_missed w (slots e g) (weight_pos v.shape.servers) ks (sym is ∙ z) in
+              let here = none_missed w (slots e g) (weight_pos v.tables.shape.servers) ks (sym is ∙ z) in
               let held = all_both (λ k. k < n) (λ k. slots e g k ≡ nothing → ⊥) (λ k. slots e g k ≡ holds (c k)) ks (all_but (λ k. k < n) i 0 n (λ k _ l _. omega arith)) here (λ k l x. held_is (M.may g k) (c k) (slots e g k) (o'.true_held k l) x) in (
                 gs.adds c o.kept_whole o.whole held ∙ solve (kept v g) c i n o.kept_whole o.whole lt o.balanced,
                 λ k ne m. all_at (λ k. slots e g k ≡ nothing → ⊥) i 0 n here k (omega arith) (omega (arith, m.0)) ne m.1,
@@ -93,10 +93,10 @@ module _ (M : Mode) where
           some = λ z.
               let f = some_missed w (slots e g) (λ k. (k < n) × (k ≡ i → ⊥)) ks (all_but _ i 0 n (λ k _ l ne. (omega arith, ne))) (λ y. z (is ∙ y)) in
               (f.0, f.1.1, (f.1.0, f.2));
-          set = λ z. omega (arith, is, own_missed w (slots e g) i n lt z, weights_below v e g n);
+          set = λ z. omega (arith, is, own_missed w (slots e g) i n lt z, weights_below v.tables e g n);
         }
 
-    pub restored_ok : (b e : Row) (ns : List (Finding × Row)) (r : Gathered) → Others v g i c b ns r e → (b i).held g ≡ nothing → ReadOk v g i (c i) e (restored v i r)
+    pub restored_ok : (b e : Row) (ns : List (Finding × Row)) (r : Gathered) → Others v g i c b ns r e → (b i).held g ≡ nothing → ReadOk v g i (c i) e (restored v.tables i r)
     restored_ok b e ns r o z =
         let none : (e i).held g ≡ nothing = ap (λ x. x.held g) o.own ∙ z in
         elim (cases_eq r.missing 0) [
@@ -120,7 +120,7 @@ module _ (M : Mode) where
               fit = rw run.2 fi;
               ok = rw (run.1, run.2) (cc, λ two. let z = two.own.1 in let y : ◌≡◌ {A = ℕ} 0 1 = cc in omega arith);
             }
-        go m (Err f) sh fi is run = through M.steps (gather v g i) (λ r. give (restored v i r)) m ns r e run λ a l ns₁ ns₂ first q notes.
+        go m (Err f) sh fi is run = through M.steps (gather v g i) (λ r. give (restored v.tables i r)) m ns r e run λ a l ns₁ ns₂ first q notes.
             let part = others_law m ns₁ a l fi (shrunk_keeps v g c b m sh o) first in
             record {
               quiet = notes ∙ rw (part.quiet, q.0) refl;

@@ -63,7 +63,7 @@ module _ (n groups x : ℕ) where
   still_further d g k w o h (inr y) = elim (cases_eq g d) [ inl z ↦ absurd (h z y.0.0 y.1) | inr ne ↦ let le = y.0.1 in inr ((y.0.0, omega arith), y.1) ]
 
   -- one group more has its member
-  further_on : (d : ℕ) (m : Moment) (k : Book) (l : Last) → Between (Mending d) m k l → (x < members_on m.tables d → slots m.row d x ≡ nothing → ⊥) → Between (Mending (d + 1)) m k l
+  further_on : (d : ℕ) (m : Moment) (k : Book) (l : Last) → Between (Mending d) m k l → (x < members_on m.log.tables d → slots m.row d x ≡ nothing → ⊥) → Between (Mending (d + 1)) m k l
   further_on d m k l at held =
       let inv = at.ok.1 in
       record {
@@ -94,26 +94,26 @@ module _ (n groups x : ℕ) where
   own_step j i a fs m o k l is at h eras =
       let S = Mending j.group in
       let end = turn_law S m k l at o (steps j a i fs) h eras in
-      let one = step_law (mode_of S) m.tables m.row k l at.ok.0 at.ok.1 at.settled.sound j fs (stepped a i) o.row (quietly S m k l at _ fs _ o.row h.goes.0 eras) in
+      let one = step_law (mode_of S) m.log m.row k l at.ok.0 at.ok.1 at.settled.tables.sound j fs (stepped a i) o.row (quietly S m k l at _ fs _ o.row h.goes.0 eras) in
       elim one.job [
         | inl y ↦ rw y (is, refl, end)
         | inr y ↦
             let on = counted_on j y.0 in
             let server : i.server ≡ x = ap (λ p. p.server) y.1 ∙ on.0 ∙ is in
             let group : i.group ≡ j.group + 1 = ap (λ p. p.group) y.1 ∙ on.1 in
-            let held : x < members_on o.tables j.group → slots o.row j.group x ≡ nothing → ⊥ = λ lt none.
+            let held : x < members_on o.log.tables j.group → slots o.row j.group x ≡ nothing → ⊥ = λ lt none.
             y.2 (record { keeps = λ f. f tt; others = λ q ne may. ne (may.0 ∙ sym is) }) (rw (is, ← h.goes.1) lt) (rw is none) in
             (server, ap (λ p. p.groups) y.1 ∙ on.2, rw group (further_on j.group o _ _ end held))
       ]
 
   -- at the end only groups from the job's place on can lack their member
   threaded : (ts : List Turn) (m o : Moment) (j i : Progress) (k : Book) (l : Last) → j.server ≡ x → Between (Mending j.group) m k l → Run m ts o → Thread j ts i → ((q : ℕ) → q < n → (o.row q).era ≤ (m.row q).era)
-      → (i.groups ≡ j.groups) × ((g q : ℕ) → Missing o.tables o.row g q → (i.group ≤ g) × (g < groups))
+      → (i.groups ≡ j.groups) × ((g q : ℕ) → Missing o.log.tables o.row g q → (i.group ≤ g) × (g < groups))
   threaded [] m o j i k l is at run ended eras = (
     refl,
     λ g q miss.
-        let miss' : Missing m.tables m.row g q = rw run at miss in
-        ((held_may _ _ _ ((at.ok.1.holds.group g).true_held q miss'.0) miss'.1).1, omega (arith, member_below m.tables g q at.settled.sound miss'.0, at.ok.1.holds.groups)),
+        let miss' : Missing m.log.tables m.row g q = rw run at miss in
+        ((held_may _ _ _ ((at.ok.1.holds.group g).true_held q miss'.0) miss'.1).1, omega (arith, member_below m.log.tables g q at.settled.tables.sound miss'.0, at.ok.1.holds.groups)),
   )
   threaded (t ∷ ts) m o j i k l is at run (between th) eras =
       let S = Mending j.group in
@@ -131,7 +131,7 @@ single_mending x g k w o (inl y) = inl y
 single_mending x g k w o (inr y) = elim (cases_eq k x) [ inl z ↦ inr ((z, omega arith), y.1) | inr ne ↦ absurd (y.0 ne) ]
 
 -- where only the server x failed, and it is up again, its rebuild can begin
-pub mending_begins : (n groups x : ℕ) (m : Moment) (k : Book) (l : Last) → Between (Single n groups x) m k l → (m.row x).up ≡ true → Between (Mending n m.tables.shape.groups x 0) m k l
+pub mending_begins : (n groups x : ℕ) (m : Moment) (k : Book) (l : Last) → Between (Single n groups x) m k l → (m.row x).up ≡ true → Between (Mending n m.log.tables.shape.groups x 0) m k l
 mending_begins n groups x m k l at up =
     let inv = at.ok.1 in
     record {
@@ -158,13 +158,13 @@ mending_begins n groups x m k l at up =
 -- between the begin and the close of a job of x, while all other servers keep their eras
 pub restores : (n groups x : ℕ) (m o : Moment) (k : Book) (l : Last) → Between (Single n groups x) m k l → Rebuilt x m o → ((q : ℕ) → q < n → (q ≡ x → ⊥) → (o.row q).era ≤ (m.row q).era) → NothingMissing o
 restores n groups x m o k l at job eras g q miss =
-    let is = begun_at m.tables x job.job job.began.goes.0 in
+    let is = begun_at m.log.tables x job.job job.began.goes.0 in
     let server : job.job.server ≡ x = ap (λ j. j.server) is in
     let group : job.job.group ≡ 0 = ap (λ j. j.group) is in
-    let groups' : job.job.groups ≡ m.tables.shape.groups = ap (λ j. j.groups) is in
+    let groups' : job.job.groups ≡ m.log.tables.shape.groups = ap (λ j. j.groups) is in
     let all : (q : ℕ) → q < n → (o.row q).era ≤ (m.row q).era = λ q lt. elim (cases_eq q x) [ inl y ↦ rw y (omega (arith, job.era)) | inr ne ↦ eras q lt ne ] in
     let begins = mending_begins n groups x m k l at job.up in
-    let end = threaded n m.tables.shape.groups x job.turns m o job.job job.last k l server (rw group begins) job.run job.thread all in
+    let end = threaded n m.log.tables.shape.groups x job.turns m o job.job job.last k l server (rw group begins) job.run job.thread all in
     let left = end.1 g q miss in
     let seen : job.last.groups - job.last.group ≡ 0 = sym (ap (λ c. c.unvisited) job.ended.goes.0) ∙ job.visited in
     omega (arith, left.0, left.1, end.0)

@@ -4,9 +4,9 @@ use borrow.Author.Tests.{both_ways}
 use Rattle.std.proofs.lemmas.Bool.{cases_eq}
 use Rattle.page.specs.declared.faults.Fault.{Fault}
 use Rattle.server.specs.Meaning.{Loss, Return}
-use Rattle.parity_log.specs.declared.records.Tables.{Tables}
+use Rattle.parity_log.specs.LogState.{LogState, log_of}
 use Rattle.parity_log.specs.Making.{made_as, making}
-use Rattle.parity_log.specs.Order.{Settled}
+use Rattle.parity_log.specs.Order.{SettledLog}
 use Rattle.parity_log.specs.Reading.{Finding}
 use Rattle.parity_log.specs.Rule.{Rule, Runs}
 use Rattle.parity_log.specs.Tables.{within}
@@ -23,8 +23,8 @@ use Rattle.law.proofs.PageoutLaw.{pageout_law}
 use Rattle.law.proofs.VisitLaw.{step_law}
 
 -- No era falls.
-goes_era : (m : Moment) (t : Turn) (v : Tables) (e : Row) → Goes m t v e → (k : ℕ) → k < m.servers → (m.row k).era ≤ (e k).era
-goes_era m (makes g q a) v e h k lt = rw h.1 (omega arith)
+goes_era : (m : Moment) (t : Turn) (v : LogState) (e : Row) → Goes m t v e → (k : ℕ) → k < m.servers → (m.row k).era ≤ (e k).era
+goes_era m (makes g q a) v e h k lt = rw h.2 (omega arith)
 goes_era m (pages_out p x a fs) v e h k lt = runs_era m.servers _ _ _ _ _ h k lt
 goes_era m (pages_in p n a fs) v e h k lt = runs_era m.servers _ _ _ _ _ h.0 k lt
 goes_era m (frees p a fs) v e h k lt = runs_era m.servers _ _ _ _ _ h k lt
@@ -35,7 +35,7 @@ goes_era m (loses s) v e h k lt = elim (cases_eq k s) [ inl y ↦ rw y (omega (a
 goes_era m (returns s) v e h k lt = elim (cases_eq k s) [ inl y ↦ rw y h.1.era | inr ne ↦ rw (h.2 k ne) (omega arith) ]
 
 pub turn_era : (m n : Moment) (t : Turn) → Happens m t n → (k : ℕ) → k < m.servers → (m.row k).era ≤ (n.row k).era
-turn_era m n t h = goes_era m t n.tables n.row h.goes
+turn_era m n t h = goes_era m t n.log n.row h.goes
 
 pub run_servers : (ts : List Turn) (m n : Moment) → Run m ts n → n.servers ≡ m.servers
 run_servers [] m n h = ap (λ o. o.servers) h
@@ -59,8 +59,10 @@ abbrev pub mode_of : Setting → Mode
 mode_of S = mode S.servers S.calm S.groups S.may S.may_lose S.finds S.two_finds
 
 -- a second make is refused and changes nothing
-made_same : (v w : Tables) (n : ℕ) (row : Row) (g q : ℕ) (a : Result ℕ Fault) → within v.shape ≡ true → making v n row g q ≡ made_as a w → w ≡ v
-made_same v w n row g q a made e = sym (ap (λ x. x.tables) e) ∙ rw made refl
+made_same : (v w : LogState) (n : ℕ) (row : Row) (g q : ℕ) (a : Result ℕ Fault) → within v.tables.shape ≡ true → making v.tables n row g q ≡ made_as a w.tables → w.running ≡ v.running → w ≡ v
+made_same v w n row g q a made e same =
+    let tables : w.tables ≡ v.tables = sym (ap (λ x. x.tables) e) ∙ rw made refl in
+    λ i. log_of (tables i) (same i)
 
 module _ (S : Setting) where
   abbrev M : Mode
@@ -69,8 +71,8 @@ module _ (S : Setting) where
   -- what holds between two calls
   pub record Between (m : Moment) (k : Book) (l : Last) : Type 0 where
     pub servers : m.servers ≡ S.servers
-    pub settled : Settled m.tables
-    pub ok : Ok M m.tables m.row k l
+    pub settled : SettledLog m.log
+    pub ok : Ok M m.log m.row k l
 
   -- the calm servers have at the second moment the eras of the first
   abbrev pub Calmly : Row → Row → Type 0
@@ -84,7 +86,7 @@ module _ (S : Setting) where
   )
 
   -- one server changed between calls
-  one_changed : (v : Tables) (b e : Row) (k : Book) (l : Last) (s : ℕ) → Ok M v b k l → s < S.servers → ((j : ℕ) → Still (S.calm s → ⊥) ((b s).held j) ((e s).held j)) → Good S.servers S.calm S.groups s (e s) → ((j : ℕ) → (j ≡ s → ⊥) → e j ≡ b j) → Ok M v e k l
+  one_changed : (v : LogState) (b e : Row) (k : Book) (l : Last) (s : ℕ) → Ok M v b k l → s < S.servers → ((j : ℕ) → Still (S.calm s → ⊥) ((b s).held j) ((e s).held j)) → Good S.servers S.calm S.groups s (e s) → ((j : ℕ) → (j ≡ s → ⊥) → e j ≡ b j) → Ok M v e k l
   one_changed v b e k l s (c, inv) lt sh good others = (
     c,
     shrunk_inv M v b e k l c
@@ -92,12 +94,12 @@ module _ (S : Setting) where
         (λ j low. elim (cases_eq j s) [ inl y ↦ rw y good | inr ne ↦ rw (others j ne) (inv.holds.fit j low) ]) inv,
   )
 
-  loss_law : (v : Tables) (b e : Row) (k : Book) (l : Last) (s : ℕ) → Ok M v b k l → s < S.servers → Loss (b s) (e s) → ((j : ℕ) → (j ≡ s → ⊥) → e j ≡ b j) → Calmly b e → Ok M v e k l
+  loss_law : (v : LogState) (b e : Row) (k : Book) (l : Last) (s : ℕ) → Ok M v b k l → s < S.servers → Loss (b s) (e s) → ((j : ℕ) → (j ≡ s → ⊥) → e j ≡ b j) → Calmly b e → Ok M v e k l
   loss_law v b e k l s ok lt loss others eras =
       let lose : S.calm s → ⊥ = λ y. omega (arith, eras s lt y, loss.era) in
       one_changed v b e k l s ok lt (λ j. loosely _ _ _ lose (loss.slots j)) (record { sound = loss.sound; up = λ y. absurd (lose y); room = omega (arith, loss.size, (ok.1.holds.fit s lt).room) }) others
 
-  return_law : (v : Tables) (b e : Row) (k : Book) (l : Last) (s : ℕ) → Ok M v b k l → s < S.servers → Return (b s) (e s) → ((j : ℕ) → (j ≡ s → ⊥) → e j ≡ b j) → Ok M v e k l
+  return_law : (v : LogState) (b e : Row) (k : Book) (l : Last) (s : ℕ) → Ok M v b k l → s < S.servers → Return (b s) (e s) → ((j : ℕ) → (j ≡ s → ⊥) → e j ≡ b j) → Ok M v e k l
   return_law v b e k l s ok lt ret others =
       let was = ok.1.holds.fit s lt in
       one_changed v b e k l s ok lt (λ j. inr (λ y. both_ways _ ret.was (was.up y), ret.slots j)) (record {
@@ -111,19 +113,19 @@ module _ (S : Setting) where
     pub quietly : {A : Type 0} (r : Rule Finding A) (ns : List (Finding × Row)) (a : A) (e : Row) → Runs (RowStep m.servers) r m.row ns a e → Calmly m.row e → Runs M.steps r m.row ns a e
     quietly r ns a e run eras = quieten S.servers S.calm r m.row ns a e (rw at.servers at run) eras
 
-    goes_law : (t : Turn) (v : Tables) (e : Row) → Goes m t v e → Calmly m.row e → Settled v × Ok M v e (noted k t) (λ q. latest q (findings t) (l q))
-    goes_law (makes g q a) v e h eras = rw (made_same m.tables v m.servers m.row g q a at.settled.sound.shape h.0, h.1) (at.settled, at.ok)
-    goes_law (pages_out p x a fs) v e h eras = let end = pageout_law M m.tables m.row k l at.ok.0 p x at.ok.1 at.settled fs _ e (quietly _ fs _ e h eras) in (end.settled, end.ok)
-    goes_law (pages_in p n a fs) v e h eras = rw h.1 (at.settled, (at.ok.0, (pagein_law M m.tables m.row k l at.ok.0 p at.ok.1 at.settled.sound n fs a e (quietly _ fs _ e h.0 eras)).inv))
-    goes_law (frees p a fs) v e h eras = let end = (free_law M m.tables m.row k l at.ok.0 p at.ok.1 at.settled fs _ e (quietly _ fs _ e h eras)).1 in (end.settled, end.ok)
+    goes_law : (t : Turn) (v : LogState) (e : Row) → Goes m t v e → Calmly m.row e → SettledLog v × Ok M v e (noted k t) (λ q. latest q (findings t) (l q))
+    goes_law (makes g q a) v e h eras = rw (made_same m.log v m.servers m.row g q a at.settled.tables.sound.shape h.0 h.1, h.2) (at.settled, at.ok)
+    goes_law (pages_out p x a fs) v e h eras = let end = pageout_law M m.log m.row k l at.ok.0 p x at.ok.1 at.settled fs _ e (quietly _ fs _ e h eras) in (end.settled, end.ok)
+    goes_law (pages_in p n a fs) v e h eras = rw h.1 (at.settled, (at.ok.0, (pagein_law M m.log m.row k l at.ok.0 p at.ok.1 at.settled.tables.sound n fs a e (quietly _ fs _ e h.0 eras)).inv))
+    goes_law (frees p a fs) v e h eras = let end = (free_law M m.log m.row k l at.ok.0 p at.ok.1 at.settled fs _ e (quietly _ fs _ e h eras)).1 in (end.settled, end.ok)
     goes_law (begins s a) v e h eras = rw (h.1, h.2) (at.settled, at.ok)
-    goes_law (steps j a i fs) v e h eras = let end = step_law M m.tables m.row k l at.ok.0 at.ok.1 at.settled.sound j fs _ e (quietly _ fs _ e h.0 eras) in rw (h.1, end.quiet) (at.settled, end.ok)
+    goes_law (steps j a i fs) v e h eras = let end = step_law M m.log m.row k l at.ok.0 at.ok.1 at.settled.tables.sound j fs _ e (quietly _ fs _ e h.0 eras) in rw (h.1, end.quiet) (at.settled, end.ok)
     goes_law (closes j c) v e h eras = rw (h.1, h.2) (at.settled, at.ok)
-    goes_law (loses s) v e h eras = rw h.3 (at.settled, loss_law m.tables m.row e k l s at.ok (omega (arith, h.0, at.servers)) h.1 h.2 eras)
-    goes_law (returns s) v e h eras = rw h.3 (at.settled, return_law m.tables m.row e k l s at.ok (omega (arith, h.0, at.servers)) h.1 h.2)
+    goes_law (loses s) v e h eras = rw h.3 (at.settled, loss_law m.log m.row e k l s at.ok (omega (arith, h.0, at.servers)) h.1 h.2 eras)
+    goes_law (returns s) v e h eras = rw h.3 (at.settled, return_law m.log m.row e k l s at.ok (omega (arith, h.0, at.servers)) h.1 h.2)
 
     pub turn_law : (n : Moment) (t : Turn) → Happens m t n → Calmly m.row n.row → Between n (noted k t) (λ q. latest q (findings t) (l q))
-    turn_law n t h eras = let end = goes_law t n.tables n.row h.goes eras in record { servers = h.servers ∙ at.servers; settled = end.0; ok = end.1 }
+    turn_law n t h eras = let end = goes_law t n.log n.row h.goes eras in record { servers = h.servers ∙ at.servers; settled = end.0; ok = end.1 }
 
   pub run_law : (ts : List Turn) (m n : Moment) (k : Book) (l : Last) → Between m k l → Run m ts n → Calmly m.row n.row → Between n (book_from k ts) (λ q. last_from q (l q) ts)
   run_law [] m n k l at h eras = rw h at

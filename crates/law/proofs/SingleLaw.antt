@@ -73,7 +73,7 @@ module _ (n groups : ℕ) where
       pub no_pageout_lost : (p : ℕ) (y : List ℕ) (f : Fault) (fs : List (Finding × Row)) → t ≡ pages_out p y (Err f) fs → f.refusal ≡ Lost → ⊥
       no_pageout_lost p y f fs is as_lost =
           let h = rw is at turn in
-          elim (pageout_law (mode_of Single) o.tables o.row _ _ then.ok.0 p y then.ok.1 then.settled fs _ r.row (quietly Single o _ _ then _ fs _ r.row h.goes during)).news [
+          elim (pageout_law (mode_of Single) o.log o.row _ _ then.ok.0 p y then.ok.1 then.settled fs _ r.row (quietly Single o _ _ then _ fs _ r.row h.goes during)).news [
             | inl z ↦ z.1 as_lost
             | inr z ↦ z
           ]
@@ -81,7 +81,7 @@ module _ (n groups : ℕ) where
       pub no_pagein_lost : (p len : ℕ) (f : Fault) (fs : List (Finding × Row)) → t ≡ pages_in p len (Err f) fs → Unlost (book_from k us) p → f.refusal ≡ Lost → ⊥
       no_pagein_lost p len f fs is unlost as_lost =
           let h = rw is at turn in
-          elim ((pagein_law (mode_of Single) o.tables o.row _ _ then.ok.0 p then.ok.1 then.settled.sound len fs (Err f) r.row (quietly Single o _ _ then _ fs _ r.row h.goes.0 during)).said.0 as_lost).4 [
+          elim ((pagein_law (mode_of Single) o.log o.row _ _ then.ok.0 p then.ok.1 then.settled.tables.sound len fs (Err f) r.row (quietly Single o _ _ then _ fs _ r.row h.goes.0 during)).said.0 as_lost).4 [
             | inl z ↦ unlost z
             | inr z ↦ z
           ]

@@ -27,8 +27,8 @@ way m n c a f st = elim (cases_Bool m.up) [
 ]
 
 denied_holds_nothing : (a : Result (List ℕ) Fault) (s : ℕ) → Denied a s → held_of a ≡ nothing
-denied_holds_nothing a s (inl d) = ap held_of d.1
-denied_holds_nothing a s (inr d) = ap held_of d.1
+denied_holds_nothing a s (inl d) = ap held_of d.2
+denied_holds_nothing a s (inr d) = ap held_of d.2
 
 -- a get answers what its slot holds afterwards, which is what it held, or nothing where L allows it
 abbrev pub GetLeaves : Type 0 → Held → Result (List ℕ) Fault → Held → Type 0
@@ -76,10 +76,10 @@ module _ (L : Type 0) (m n : Meaning) (sound : Sound m) (rose : m.era < n.era �
       left f y l e = (inr (l, e), λ z. cc, λ f z. e)
 
       go : Way m (to_put s p) a n → PutLeaves L p a (n.held s)
-      go (down u d e) = left _ d.1 (fell u) (empty u e s)
+      go (down u d e) = left _ d.2 (fell u) (empty u e s)
       go (kept v o q) = taken q.0 q.1
       go (raised r o (inl q)) = taken q.0 q.1
-      go (raised r o (inr q)) = left _ q.0.1 (rose r) q.1
+      go (raised r o (inr q)) = left _ q.0.2 (rose r) q.1
 
   pub free_empties : (s : ℕ) (a : Result (Unit {0}) Fault) → s < m.size → Step m (to_free s) a n → n.held s ≡ nothing
   free_empties s a lt st = go (way m n (to_free s) a (refl, lt) st)

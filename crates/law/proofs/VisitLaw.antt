@@ -9,7 +9,7 @@ use Rattle.page.specs.Refusals.{fault_of}
 use Rattle.server.specs.Calls.{to_put, to_get}
 use Rattle.server.specs.Meaning.{Held, nothing, holds}
 use Rattle.parity_log.specs.declared.records.Progress.{Progress}
-use Rattle.parity_log.specs.declared.records.Tables.{Tables}
+use Rattle.parity_log.specs.LogState.{LogState}
 use Rattle.parity_log.specs.declared.records.Visit.{Visit}
 use Rattle.parity_log.specs.declared.records.Visit.TheVariants.{Intact, Rebuilt, Failed}
 use Rattle.parity_log.specs.Order.{Sound}
@@ -38,12 +38,12 @@ module _ (M : Mode) where
     pub others : (j : ℕ) → (j ≡ x → ⊥) → M.may g j → ⊥
 
   -- nothing is found lost, all holds, and where the server stands alone its member is held afterwards
-  pub record Visits (v : Tables) (x g : ℕ) (k : Book) (l : Last) (ns : List (Finding × Row)) (e : Row) : Type 0 where
+  pub record Visits (v : LogState) (x g : ℕ) (k : Book) (l : Last) (ns : List (Finding × Row)) (e : Row) : Type 0 where
     pub quiet : ns ≡ []
     pub ok : Ok M v e k l
-    pub held : Alone x g → x < members_on v g → slots e g x ≡ nothing → ⊥
+    pub held : Alone x g → x < members_on v.tables g → slots e g x ≡ nothing → ⊥
 
-  module _ (v : Tables) (k : Book) (l : Last) (c : ℕ → ℕ → List ℕ) (sound : Sound v) (x g : ℕ) (room : g < v.shape.groups) (lt : x < members_on v g) where
+  module _ (v : LogState) (k : Book) (l : Last) (c : ℕ → ℕ → List ℕ) (sound : Sound v.tables) (x g : ℕ) (room : g < v.tables.shape.groups) (lt : x < members_on v.tables g) where
     -- all others were asked, and none refused or some did
     put_back_law : (b m : Row) (ns₁ : List (Finding × Row)) (r : Gathered) → Inv M v m k l c → Others M v g x (c g) b ns₁ r m → (ns : List (Finding × Row)) (a : Visit) (e : Row) → Runs M.steps (put_back x g r) m ns a e → Visits v x g k l ns e
     unfolding put_back
@@ -56,7 +56,7 @@ module _ (M : Mode) where
             let on = members_on_lem M v m c g sound inv.holds in
             let pu = M.puts m run.1 x g r.sum run.0 (omega arith) (omega (arith, inv.holds.groups)) whole inv.holds.fit run.2 in
             let q = run.3 in
-            let none : (j : ℕ) → TwoMissing (members_on v g) (slots m g) j → ⊥ = λ j two. elim (cases_eq j x) [ inl z ↦ (o.all y).1 two.other.0 (λ w. two.other.1 (w ∙ sym z)) two.other.2 | inr ne ↦ (o.all y).1 j ne two.own ] in
+            let none : (j : ℕ) → TwoMissing (members_on v.tables g) (slots m g) j → ⊥ = λ j two. elim (cases_eq j x) [ inl z ↦ (o.all y).1 two.other.0 (λ w. two.other.1 (w ∙ sym z)) two.other.2 | inr ne ↦ (o.all y).1 j ne two.own ] in
             record {
               quiet = q.0;
               ok = rw q.2 (_, mend_inv M v m run.1 k l c inv sound g x r.sum run.0 lt is pu none);
@@ -77,29 +77,29 @@ module _ (M : Mode) where
         let back = put_back_law b m ns₁ o (shrunk_inv M v b m k l c part.shrunk part.fit inv) part ns₂ r e second in
         record { quiet = notes ∙ rw (part.quiet, back.quiet) refl; ok = back.ok; held = back.held }
 
-  module _ (v : Tables) (b : Row) (k : Book) (l : Last) (c : ℕ → ℕ → List ℕ) (inv : Inv M v b k l c) (sound : Sound v) where
-    pub visit_law : (x g : ℕ) → g < v.shape.groups → (ns : List (Finding × Row)) (r : Visit) (e : Row) → Runs M.steps (visit v x g) b ns r e → Visits v x g k l ns e
+  module _ (v : LogState) (b : Row) (k : Book) (l : Last) (c : ℕ → ℕ → List ℕ) (inv : Inv M v b k l c) (sound : Sound v.tables) where
+    pub visit_law : (x g : ℕ) → g < v.tables.shape.groups → (ns : List (Finding × Row)) (r : Visit) (e : Row) → Runs M.steps (visit v x g) b ns r e → Visits v x g k l ns e
     unfolding visit
-    visit_law x g room ns r e run = go (ltb x (members_on v g)) refl run
+    visit_law x g room ns r e run = go (ltb x (members_on v.tables g)) refl run
       where
-        go : (t : Bool) → ltb x (members_on v g) ≡ t → Runs M.steps (cond t (ask x (to_get g page_size) (λ a. mend v x g a)) (give Intact)) b ns r e → Visits v x g k l ns e
+        go : (t : Bool) → ltb x (members_on v.tables g) ≡ t → Runs M.steps (cond t (ask x (to_get g page_size) (λ a. mend v x g a)) (give Intact)) b ns r e → Visits v x g k l ns e
         go true t run =
-            let lt = ltb-true x (members_on v g) t in
+            let lt = ltb-true x (members_on v.tables g) t in
             let on = members_on_lem M v b c g sound inv.holds in
             let got = M.gets b run.1 x g run.0 (omega arith) (omega (arith, inv.holds.groups)) inv.holds.fit run.2 in
             mend_law v k l c sound x g room lt run.1 run.0 (shrunk_inv M v b run.1 k l c got.shrunk got.fit inv) got.is ns r e run.3
-        go false t (p, q, w) = rw w (record { quiet = p; ok = (c, inv); held = λ _ lt _. let ge = ltb-false x (members_on v g) t in omega arith })
+        go false t (p, q, w) = rw w (record { quiet = p; ok = (c, inv); held = λ _ lt _. let ge = ltb-false x (members_on v.tables g) t in omega arith })
 
     -- the job is given back as it was, or one group further after a visit to its group
     abbrev Moved : Progress → Progress → Row → Type 0
-    Moved j i e = (i ≡ j) ⊎ ((r : Visit) × (i ≡ counted j r) × (Alone j.server j.group → j.server < members_on v j.group → slots e j.group j.server ≡ nothing → ⊥))
+    Moved j i e = (i ≡ j) ⊎ ((r : Visit) × (i ≡ counted j r) × (Alone j.server j.group → j.server < members_on v.tables j.group → slots e j.group j.server ≡ nothing → ⊥))
 
     pub record Steps (j : Progress) (ns : List (Finding × Row)) (s : Stepped) (e : Row) : Type 0 where
       pub quiet : ns ≡ []
       pub ok : Ok M v e k l
       pub job : Moved j s.job e
 
-    unless_law : (j : Progress) (o : Option Fault) → (o ≡ Nowhere → j.groups ≡ v.shape.groups) → (ns : List (Finding × Row)) (s : Stepped) (e : Row) → Runs M.steps (step_unless o v j) b ns s e → Steps j ns s e
+    unless_law : (j : Progress) (o : Option Fault) → (o ≡ Nowhere → j.groups ≡ v.tables.shape.groups) → (ns : List (Finding × Row)) (s : Stepped) (e : Row) → Runs M.steps (step_unless o v j) b ns s e → Steps j ns s e
     unless_law j (Some f) fits ns s e (p, q, w) = rw (p, q, w) (record { quiet = refl; ok = (c, inv); job = inl refl })
     unless_law j Nowhere fits ns s e run = go (ltb j.group j.groups) refl run
       where
@@ -112,10 +112,10 @@ module _ (M : Mode) where
             let quiet : ns ≡ [] = notes ∙ rw (one.quiet, q.0) refl in
             rw (q.1, q.2) (record { quiet = quiet; ok = one.ok; job = inr (r, refl, one.held) })
 
-    misfit_none : (j : Progress) → misfit v j ≡ Nowhere → j.groups ≡ v.shape.groups
-    misfit_none j = go (within v.shape) (eqb j.servers v.shape.servers) (eqb j.groups v.shape.groups) refl
+    misfit_none : (j : Progress) → misfit v.tables j ≡ Nowhere → j.groups ≡ v.tables.shape.groups
+    misfit_none j = go (within v.tables.shape) (eqb j.servers v.tables.shape.servers) (eqb j.groups v.tables.shape.groups) refl
       where
-        go : (x y z : Bool) → eqb j.groups v.shape.groups ≡ z → cond x (cond (y && z) Nowhere (Some (fault_of Log Range))) (Some (fault_of Log BadShape)) ≡ Nowhere → j.groups ≡ v.shape.groups
+        go : (x y z : Bool) → eqb j.groups v.tables.shape.groups ≡ z → cond x (cond (y && z) Nowhere (Some (fault_of Log Range))) (Some (fault_of Log BadShape)) ≡ Nowhere → j.groups ≡ v.tables.shape.groups
         go true true true z e = eqb-true _ _ z
         go true true false z e = let w : ◌≡◌ {A = ℕ} 0 1 = cc in absurd (omega arith)
         go true false y z e = let w : ◌≡◌ {A = ℕ} 0 1 = cc in absurd (omega arith)
@@ -123,4 +123,4 @@ module _ (M : Mode) where
 
     pub step_law : (j : Progress) (ns : List (Finding × Row)) (s : Stepped) (e : Row) → Runs M.steps (step v j) b ns s e → Steps j ns s e
     unfolding step
-    step_law j = unless_law j (misfit v j) (misfit_none j)
+    step_law j = unless_law j (misfit v.tables j) (misfit_none j)

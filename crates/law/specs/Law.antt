@@ -13,7 +13,7 @@ use Rattle.law.specs.Invariant.{FoundAt}
 use Rattle.law.specs.Runs.{Moment, Turn, pages_out, pages_in, begins, steps, closes, Happens, Run, book, last_found}
 
 abbrev pub NothingMissing : Moment → Type 0
-NothingMissing m = (g k : ℕ) → Missing m.tables m.row g k → ⊥
+NothingMissing m = (g k : ℕ) → Missing m.log.tables m.row g k → ⊥
 
 -- every server is up, and no member of a group is missing
 pub record Healthy (m : Moment) : Type 0 where
@@ -24,6 +24,10 @@ pub record Healthy (m : Moment) : Type 0 where
 -- so where all were up at the first, none but x fell, lost anything or came back between the two.
 abbrev pub OnlyAt : ℕ → Moment → Moment → Type 0
 OnlyAt x m n = (k : ℕ) → k < m.servers → (k ≢ x) → (n.row k).era ≡ (m.row k).era
+
+-- no server has another era at the second moment: none fell, lost anything or came back between the two
+abbrev pub SameEras : Moment → Moment → Type 0
+SameEras m n = (k : ℕ) → k < m.servers → (n.row k).era ≡ (m.row k).era
 
 -- the fault of a page that is lost, by its latest finding, which was right
 abbrev pub LostRightly : ℕ → Fault → List Turn → Type 0
@@ -81,7 +85,11 @@ pub record Lawful (m : Moment) : Type 0 where
       → Run m ts n → Healthy n → Run n us o → Happens o (pages_in p len (Err f) fs) r → OnlyAt x n r
       → (book ts p ≡ has y) ⊎ PagedOut p us
       → f.refusal ≢ Lost
-  -- and once that server has been rebuilt, nothing is missing
+  -- as long as no server at all has another era, nothing is missing;
+  pub nothing_is_missing_while_eras_stay : (ts us : List Turn) (n o : Moment)
+      → Run m ts n → Healthy n → Run n us o → SameEras n o
+      → NothingMissing o
+  -- and once the one server that failed has been rebuilt, nothing is missing
   pub a_rebuild_restores_all : (ts us : List Turn) (n o r : Moment) (x : ℕ)
       → Run m ts n → Healthy n → Run n us o → Rebuilt x o r → OnlyAt x n r
       → NothingMissing r

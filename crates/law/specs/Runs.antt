@@ -4,7 +4,7 @@ use Rattle.page.specs.declared.faults.Fault.{Fault}
 use Rattle.server.specs.Meaning.{Loss, Return}
 use Rattle.parity_log.specs.declared.records.Counts.{Counts}
 use Rattle.parity_log.specs.declared.records.Progress.{Progress}
-use Rattle.parity_log.specs.declared.records.Tables.{Tables}
+use Rattle.parity_log.specs.LogState.{LogState}
 use Rattle.parity_log.specs.Making.{made_as, making}
 use Rattle.parity_log.specs.Paging.{told, pageout, free}
 use Rattle.parity_log.specs.Reading.{Finding, pagein}
@@ -13,9 +13,9 @@ use Rattle.parity_log.specs.Rule.{Runs}
 use Rattle.law.specs.Rows.{Row, RowStep}
 use Rattle.law.specs.Book.{has, nothing, Book, found, heard, heard_page, latest}
 
--- a pager between two calls: its tables, how many servers it has, the parity server with them, and what each of them means
+-- a pager between two calls: its log, how many servers it has, the parity server with them, and what each of them means
 pub record Moment : Type 0 where
-  pub tables : Tables
+  pub log : LogState
   pub servers : ℕ
   pub row : Row
 
@@ -34,22 +34,23 @@ pub data Turn : Type 0 where
 abbrev pub Beside : ℕ → Row → Row → Type 0
 Beside s b e = (k : ℕ) → (k ≢ s) → e k ≡ b k
 
--- what a turn does to tables and servers: a call goes by its rule, over servers that may lose in each call on them
-abbrev pub Goes : Moment → Turn → Tables → Row → Type 0
-Goes m (makes g q a) v e = (making m.tables m.servers m.row g q ≡ made_as a v) × (e ≡ m.row)
-Goes m (pages_out p x a fs) v e = Runs (RowStep m.servers) (pageout m.tables p x) m.row fs (told a v) e
-Goes m (pages_in p n a fs) v e = Runs (RowStep m.servers) (pagein m.tables p n) m.row fs a e × (v ≡ m.tables)
-Goes m (frees p a fs) v e = Runs (RowStep m.servers) (free m.tables p) m.row fs (told a v) e
-Goes m (begins s a) v e = (a ≡ begin m.tables s) × (v ≡ m.tables) × (e ≡ m.row)
-Goes m (steps j a k fs) v e = Runs (RowStep m.servers) (step m.tables j) m.row fs (stepped a k) e × (v ≡ m.tables)
-Goes m (closes j c) v e = (c ≡ counts j) × (v ≡ m.tables) × (e ≡ m.row)
-Goes m (loses s) v e = (s < m.servers) × Loss (m.row s) (e s) × Beside s m.row e × (v ≡ m.tables)
-Goes m (returns s) v e = (s < m.servers) × Return (m.row s) (e s) × Beside s m.row e × (v ≡ m.tables)
+-- what a turn does to log and servers: a call goes by its rule, over servers that may lose in each call on them
+abbrev pub Goes : Moment → Turn → LogState → Row → Type 0
+Goes m (makes g q a) s e =
+    (making m.log.tables m.servers m.row g q ≡ made_as a s.tables) × (s.running ≡ m.log.running) × (e ≡ m.row)
+Goes m (pages_out p x a fs) s e = Runs (RowStep m.servers) (pageout m.log p x) m.row fs (told a s) e
+Goes m (pages_in p n a fs) s e = Runs (RowStep m.servers) (pagein m.log p n) m.row fs a e × (s ≡ m.log)
+Goes m (frees p a fs) s e = Runs (RowStep m.servers) (free m.log p) m.row fs (told a s) e
+Goes m (begins k a) s e = (a ≡ begin m.log.tables k) × (s ≡ m.log) × (e ≡ m.row)
+Goes m (steps j a k fs) s e = Runs (RowStep m.servers) (step m.log j) m.row fs (stepped a k) e × (s ≡ m.log)
+Goes m (closes j c) s e = (c ≡ counts j) × (s ≡ m.log) × (e ≡ m.row)
+Goes m (loses k) s e = (k < m.servers) × Loss (m.row k) (e k) × Beside k m.row e × (s ≡ m.log)
+Goes m (returns k) s e = (k < m.servers) × Return (m.row k) (e k) × Beside k m.row e × (s ≡ m.log)
 
 -- from one moment to the next
 pub record Happens (m : Moment) (t : Turn) (n : Moment) : Type 0 where
   pub servers : n.servers ≡ m.servers
-  pub goes : Goes m t n.tables n.row
+  pub goes : Goes m t n.log n.row
 
 abbrev pub Run : Moment → List Turn → Moment → Type 0
 Run m [] o = o ≡ m

@@ -1,15 +1,13 @@
 //! Runs of a pager over memory servers that fall: what is lost, what is not, and what a rebuild brings back.
 #![tactic(auto)]
 
-mod reading_back;
-mod restoring;
 mod stories;
 
 use bank::{Bank, End, Pair, PullableBank};
+use law_uses::write_then_read;
 use memory::Memory;
 use page::{Fault, PAGE_SIZE, Page};
 use pager::Pager;
-use reading_back::write_then_read;
 use server::Pullable;
 use stories::{GROUPS, STORIES, Story, tell};
 

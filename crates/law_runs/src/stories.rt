@@ -1,5 +1,5 @@
-use crate::restoring::restore;
 use bank::PullableBank;
+use law_uses::{Pageout, Restoration, restore};
 use page::{Fault, PAGE_SIZE, Page};
 use pager::Pager;
 use parity_log::Counts;
@@ -141,15 +141,35 @@ fn page_in<B: PullableBank>(pager: &mut Pager<B>, page: usize) -> Result<u8, Fau
     Ok(buffer[0])
 }
 
+// The pageouts of a rebuild, at most one after each of its steps.
+fn rebuild<B: PullableBank>(
+    pager: &mut Pager<B>,
+    server: usize,
+    values: &[(usize, u8)],
+) -> Result<Counts, Fault> {
+    let mut pageouts = [Pageout {
+        page: 0,
+        bytes: Page::zero(),
+    }; GROUPS];
+    for (pageout, &(page, value)) in pageouts.iter_mut().zip(values) {
+        *pageout = Pageout {
+            page,
+            bytes: Page::of_value(value),
+        };
+    }
+    let asked = pageouts.get(..values.len()).unwrap_or(&pageouts);
+    let Restoration { counts, pageouts } = restore(pager, server, GROUPS, asked)?;
+    pageouts?;
+    Ok(counts)
+}
+
 fn carry_out<B: PullableBank>(pager: &mut Pager<B>, act: Act<'_>) -> Result<Given, Fault> {
     match act {
         Act::Out(page, value) => page_out(pager, page, value).map(|()| Given::Done),
         Act::In(page) => page_in(pager, page).map(Given::Page),
         Act::Fall(server) => pager.fall(server).map(|()| Given::Done),
         Act::Back(server) => pager.back(server).map(|()| Given::Done),
-        Act::Rebuild(server, pageouts) => restore(pager, server, GROUPS, pageouts).map(
-            Given::Rebuilt,
-        ),
+        Act::Rebuild(server, pageouts) => rebuild(pager, server, pageouts).map(Given::Rebuilt),
     }
 }
 

@@ -1,3 +1,4 @@
 pub mod Asks
 pub mod Clears
+pub mod Outliving
 pub mod Returning

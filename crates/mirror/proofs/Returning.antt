@@ -69,7 +69,7 @@ module _ {m n m' n' : Meaning} {b d : Reply} (om : Sound m) (on : Sound n) (f : 
         (λ r. inl (ap (λ (x : Reply). either_done_of worn x d) r.0, revives v (ap (λ x. x || n'.up) r.1.0)))
         (λ r. ⊎_elim
         (λ t. inl (second_done worn b d t.0, revives v (or_right m'.up n'.up t.1.0)))
-        (λ t. inr ((InMirror, ap₂ (either_done_of worn) r.0.1 t.0.1), ap₂ joined r.1 t.1))
+        (λ t. inr ((InMirror, tt, ap₂ (either_done_of worn) r.0.2 t.0.2), ap₂ joined r.1 t.1))
         (g.down e.1))
         (f.down e.0);
   }
@@ -79,7 +79,7 @@ left_alone : (m : Meaning) → (a : Reply) × Backs m a m
 left_alone m =
     ⊎_elim
     (λ u. (Ok tt, record { up = λ _. (refl, refl); down = λ d. absurd (both_ways m.up d u) }))
-    (λ d. (Err worn, record { up = λ u. absurd (both_ways m.up d u); down = λ _. inr ((InMirror, refl), refl) }))
+    (λ d. (Err worn, record { up = λ u. absurd (both_ways m.up d u); down = λ _. inr ((InMirror, tt, refl), refl) }))
     (cases_Bool m.up)
 
 pub first_return : {m n m' : Meaning} {a : Reply} → Sound m → Sound n → Backs m a m' → ReturnAtMost (joined m n) (joined m' n)

@@ -99,13 +99,13 @@ module _ {m n m' n' : Meaning} {c : Call} (h : Leaves m m' c) (i : Leaves n n' c
 
 pub put_raised : (s : ℕ) (p : List ℕ) (h k h' k' : Held) (b d : Reply) → Raised (to_put s p) h b h' → Raised (to_put s p) k d k' → Raised (to_put s p) (first_of h k) (either_done_of (refusal Gone s) b d) (first_of h' k')
 put_raised s p h k h' k' b d (inl x) y = inl (ap (λ (z : Reply). either_done_of (refusal Gone s) z d) x.0, ap (λ z. first_of z k') x.1)
-put_raised s p h k h' k' b d (inr x) (inl y) = inl (ap₂ (either_done_of (refusal Gone s)) x.0.1 y.0, ap₂ first_of x.1 y.1)
-put_raised s p h k h' k' b d (inr x) (inr y) = inr ((Mirror, ap₂ (either_done_of (refusal Gone s)) x.0.1 y.0.1), ap₂ first_of x.1 y.1)
+put_raised s p h k h' k' b d (inr x) (inl y) = inl (ap₂ (either_done_of (refusal Gone s)) x.0.2 y.0, ap₂ first_of x.1 y.1)
+put_raised s p h k h' k' b d (inr x) (inr y) = inr ((Mirror, tt, ap₂ (either_done_of (refusal Gone s)) x.0.2 y.0.2), ap₂ first_of x.1 y.1)
 
 -- a page that is handed over was not denied
 not_denied : {A : Type 0} (s : ℕ) (p : List ℕ) → Denied (Ok p) s → A
-not_denied s p (inl x) = let e = x.1 in clash (cc)
-not_denied s p (inr x) = let e = x.1 in clash (cc)
+not_denied s p (inl x) = let e = x.2 in clash (cc)
+not_denied s p (inr x) = let e = x.2 in clash (cc)
 
 pub get_raised_first : (s l : ℕ) (p : List ℕ) (h k h' k' : Held) → Raised (to_get s l) h (Ok p) h' → Raised (to_get s l) (first_of h k) (Ok p) (first_of h' k')
 get_raised_first s l p h k h' k' (inl x) = inl (x.0, ap (λ z. first_of z k) x.1, x.2, ap (λ z. first_of z k') x.3)
@@ -120,8 +120,8 @@ second_denied s f (Ok p) x = not_denied s p x
 second_denied s f (Err g) x = none_or_gone_lem (same_refusal f.refusal None || same_refusal g.refusal None)
   where
     none_or_gone_lem : (b : Bool) → Denied {T = List ℕ} (Err (refusal (cond b None Gone) s)) s
-    none_or_gone_lem true = inl (Mirror, refl)
-    none_or_gone_lem false = inr (Mirror, refl)
+    none_or_gone_lem true = inl (Mirror, tt, refl)
+    none_or_gone_lem false = inr (Mirror, tt, refl)
 
 pub get_raised_second : (s l : ℕ) (f : Fault) (h k h' k' : Held) (d : Result (List ℕ) Fault) → Copies h k → Raised (to_get s l) h (Err f) h' → Raised (to_get s l) k d k' → Raised (to_get s l) (first_of h k) (second_says s f d) (first_of h' k')
 get_raised_second s l f h k h' k' d same (inl x) y = let e = x.2 in clash (cc)

@@ -19,7 +19,7 @@ use Rattle.mirror.specs.Joining.{paired_sound, joined_agree, joined_past, joined
 -- a call that is refused for its length or its slot
 long_step : (m : Meaning) (c : Call) (a : Answer c) → (length_of c ≢ 512) → a ≡ Err (refusal Length (slot_of c)) → Step m c a m
 long_step m c a bad e = record {
-  long = λ _. ((InMirror, e), refl);
+  long = λ _. ((InMirror, tt, e), refl);
   past = λ l _. absurd (bad l);
   down = λ f _. absurd (bad f.0);
   kept = λ f _ _. absurd (bad f.0);
@@ -31,7 +31,7 @@ long_step m c a bad e = record {
 past_step : (m : Meaning) (c : Call) (a : Answer c) → length_of c ≡ 512 → m.size ≤ slot_of c → a ≡ Err (refusal Range (slot_of c)) → Step m c a m
 past_step m c a l p e = record {
   long = λ bad. absurd (bad l);
-  past = λ _ _. ((InMirror, e), refl);
+  past = λ _ _. ((InMirror, tt, e), refl);
   down = λ f _. let z : ⊥ = omega (arith, f.1) in absurd z;
   kept = λ f _ _. let z : ⊥ = omega (arith, f.1) in absurd z;
   raised = λ f _ _. let z : ⊥ = omega (arith, f.1) in absurd z;

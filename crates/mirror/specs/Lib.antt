@@ -3,6 +3,7 @@ pub mod Rule
 pub mod Stands
 pub mod Sweep
 pub mod Pulling
+pub mod Outliving
 pub mod Leaving
 pub mod Joining
 pub mod Laws

@@ -3,6 +3,7 @@
 
 ghost use Rattle.std.specs.Prelude.{◌≡◌, min};
 ghost use Rattle.mirror.specs.Joined.{Paired};
+ghost use Rattle.mirror.specs.Outliving.{OrderOutlives};
 ghost use Rattle.mirror.specs.Rule.{none_or_gone_of};
 ghost use Rattle.mirror.specs.Sweep.{Swept};
 ghost use Rattle.server.specs.Meaning.{Empty};
@@ -149,3 +150,9 @@ impl<P: Pullable, Q: Pullable> Mirror<P, Q> {
         }
     }
 }
+
+/// The halves of a mirror stay so through their losses and returns between calls, and these are to
+/// the mirror's callers at most a loss or a return of the mirror.
+pub fn mirror_stands()
+    ensures outlives { OrderOutlives }
+{}

@@ -1,4 +1,6 @@
+ghost use Rattle.page.specs.FaultText.{WorkedTexts, fault_text, place_text};
 ghost use Rattle.page.specs.Refusals.{fault_of, in_group, layer_word, named, of_page, on_line, on_slot, same_refusal};
+ghost use Rattle.std.specs.Fmt.{DisplaysOnOk};
 ghost use Rattle.std.specs.Prelude.{◌≡◌, Some};
 
 use std::error::Error;
@@ -161,11 +163,13 @@ impl Fault {
 }
 
 // One place, where it is known.
-fn write_place<W: fmt::Write, T: fmt::Display + Drop>(
+fn write_place<W: fmt::Write>(
     f: &mut fmt::Formatter<W>,
     name: &str,
-    place: Option<T>,
-) -> fmt::Result {
+    place: Option<usize>,
+) -> fmt::Result
+    ensures { DisplaysOnOk W.write_str_gives f.old result (Some (place_text name.now place)) f.new }
+{
     match place {
         Some(n) => write!(f, ", {name} {n}"),
         None => Ok(()),
@@ -173,15 +177,22 @@ fn write_place<W: fmt::Write, T: fmt::Display + Drop>(
 }
 
 impl fmt::Display for Fault {
+    ghost output = { λ x. Some (fault_text x) };
+
     fn fmt<W: fmt::Write>(&self, f: &mut fmt::Formatter<W>) -> fmt::Result {
         let Fault { refusal, layer, .. } = *self;
         write!(f, "{layer}: {refusal}")?;
         write_place(f, "slot", self.slot)?;
         write_place(f, "page", self.page)?;
         write_place(f, "group", self.group)?;
-        write_place(f, "missing", self.missing)?;
+        write_place(f, "missing", self.missing.map(usize::from))?;
         write_place(f, "line", self.line)
     }
 }
 
 impl Error for Fault {}
+
+/// Three faults, as they are written for a person, were worked out by hand.
+pub fn faults_stand()
+    ensures texts { WorkedTexts }
+{}

@@ -7,7 +7,7 @@ use Rattle.page.specs.declared.faults.Fault.{Fault}
 use Rattle.server.specs.Calls.{to_get}
 use Rattle.bank.specs.Rows.{RowRule}
 use Rattle.parity_log.specs.Rule.{Ends}
-use Rattle.parity_log.specs.declared.records.Tables.{Tables}
+use Rattle.parity_log.specs.LogState.{LogState}
 use Rattle.parity_log.specs.Tables.{member_count_of, state_of, weight}
 use Rattle.parity_log.specs.Reading.{LogRule, Gathered, asking, refusers, gather, kept}
 use Rattle.parity_log.proofs.RuleLaws.{Leads, leads_ask, leads_give}
@@ -28,11 +28,12 @@ abbrev pub rest : ℕ → ℕ → ℕ → List ℕ
 rest but k n = filter (λ m. not (eqb m but)) (range_with_len k (n - k))
 
 -- a gathering begins with all members but one
-pub gather_begins : {B : Type 0} (steps : RowRule B) (b : B) (v : Tables) (g but n : ℕ) (sum : List ℕ) → n ≡ member_count_of (state_of v g) v.shape.servers v.filled → sum ≡ kept v g → Leads steps (gather v g but) b (asking v.shape.servers g (rest but 0 n) sum 0) b
+pub gather_begins : {B : Type 0} (steps : RowRule B) (b : B) (l : LogState) (g but n : ℕ) (sum : List ℕ) → n ≡ member_count_of (state_of l.tables g) l.tables.shape.servers l.tables.filled → sum ≡ kept l g → Leads steps (gather l g but) b (asking l.tables.shape.servers g (rest but 0 n) sum 0) b
 unfolding gather
-gather_begins steps b v g but n sum e k r z h =
+gather_begins steps b l g but n sum e k r z h =
+    let v = l.tables in
     let all : n - 0 ≡ member_count_of (state_of v g) v.shape.servers v.filled = omega arith in
-    let same : asking v.shape.servers g (rest but 0 n) sum 0 ≡ gather v g but = ap₂ (λ m p. asking v.shape.servers g (filter (λ x. not (eqb x but)) (range_with_len 0 m)) p 0) all k in
+    let same : asking v.shape.servers g (rest but 0 n) sum 0 ≡ gather l g but = ap₂ (λ m p. asking v.shape.servers g (filter (λ x. not (eqb x but)) (range_with_len 0 m)) p 0) all k in
     subst (λ (rule : LogRule Gathered). Ends steps rule b r z) same h
 
 module _ {B : Type 0} (steps : RowRule B) (whole : LogRule Gathered) (b₀ b : B) (s g but k n : ℕ) (sum : List ℕ) (missing : ℕ) (inv : Leads steps whole b₀ (asking s g (rest but k n) sum missing) b) where

@@ -2,6 +2,7 @@
 use Rattle.std.proofs.Common.{◌≡◌, ℕ, ◌+◌, ◌-◌, ◌<◌, ◌≤◌, Bool, cond, List, Some, None, Option, sym, refl, ap, ◌∙◌, subst, arith, le-ltb, lt-ltb}
 use Rattle.std.specs.List.{range_with_len}
 use Rattle.bank.specs.Rows.{RowRule}
+use Rattle.parity_log.specs.LogState.{LogState, with_tables}
 use Rattle.parity_log.specs.declared.records.Tables.{Tables}
 use Rattle.parity_log.specs.declared.records.PageState.TheVariants.{Out, Lost}
 use Rattle.parity_log.specs.Rule.{give, Ends}
@@ -20,18 +21,20 @@ use Rattle.parity_log.proofs.RuleLaws.{Leads, leads_bind, leads_give, ends_bind,
 use Rattle.pager.specs.Places.{placed_as}
 use Rattle.pager.proofs.AskingLaws.{span_more, span_none}
 
-module _ {B : Type 0} (steps : RowRule B) (v : Tables) (g c i : ℕ) (o : Option ℕ) (b e : B) where
-  pub nobody_moves : o ≡ None → Ends steps (move v g c i o) b v b
+module _ {B : Type 0} (steps : RowRule B) (l : LogState) (g c i : ℕ) (o : Option ℕ) (b e : B) where
+  pub nobody_moves : o ≡ None → Ends steps (move l g c i o) b l b
   unfolding move
-  nobody_moves q = rw q (ends_give steps v b)
+  nobody_moves q = rw q (ends_give steps l b)
 
-  pub one_moves : (p : ℕ) (x : List ℕ) (m : B) (done : Bool) (w : Tables) → o ≡ Some p → Ends steps (read v c i) b (found x) m → Ends steps (place v g p x) m (placed_as done w) e → Ends steps (move v g c i o) b w e
+  pub one_moves : (p : ℕ) (x : List ℕ) (m : B) (done : Bool) (k : LogState) → o ≡ Some p → Ends steps (read l c i) b (found x) m → Ends steps (place l g p x) m (placed_as done k) e → Ends steps (move l g c i o) b k e
   unfolding move
-  one_moves p x m done w q got put = rw q (ends_bind steps (read v c i) (λ r. moved v g c i p r) b m e (found x) w got (ends_bind steps (place v g p x) (λ r. give r.tables) m e e (placed_as done w) w put (ends_give steps w e)))
+  one_moves p x m done k q got put = rw q (ends_bind steps (read l c i) (λ r. moved l g c i p r) b m e (found x) k got (ends_bind steps (place l g p x) (λ r. give r.log) m e e (placed_as done k) k put (ends_give steps k e)))
 
-  pub one_is_lost : (p s : ℕ) (w : Tables) → o ≡ Some p → Ends steps (read v c i) b (missed s) e → w ≡ with_page v p (Lost c s) → Ends steps (move v g c i o) b w e
+  pub one_is_lost : (p s : ℕ) (k : LogState) → o ≡ Some p → Ends steps (read l c i) b (missed s) e → k ≡ with_tables l (with_page l.tables p (Lost c s)) → Ends steps (move l g c i o) b k e
   unfolding move
-  one_is_lost p s w q lost same = rw (q, same) (ends_bind steps (read v c i) (λ r. moved v g c i p r) b e e (missed s) _ lost (ends_note steps _ (give (with_page v p (Lost c s))) e e _ (ends_give steps (with_page v p (Lost c s)) e)))
+  one_is_lost p s k q lost same =
+      let gone = with_tables l (with_page l.tables p (Lost c s)) in
+      rw (q, same) (ends_bind steps (read l c i) (λ r. moved l g c i p r) b e e (missed s) _ lost (ends_note steps _ (give gone) e e _ (ends_give steps gone e)))
 
 module _ (v : Tables) (g c i p : ℕ) (h : Cleaning v g c i) (lt : i < v.shape.servers) (at : page_at v.pages c i ≡ Some p) where
   pub place_fits : (v.filled < v.shape.servers) × Changes v p (Out g v.filled)
@@ -43,34 +46,37 @@ module _ (v : Tables) (g c i p : ℕ) (h : Cleaning v g c i) (lt : i < v.shape.s
   pub lose_fits : (m : ℕ) → Changes v p (Lost c m)
   lose_fits m = changes_lose v p c m h.sound (clean_page v g c i p h lt at).0
 
-module _ {B : Type 0} (steps : RowRule B) (whole : LogRule Tables) (b₀ b : B) (g c i n : ℕ) (v : Tables) (inv : Leads steps whole b₀ (move_all (range_with_len i (n - i)) g c v) b) where
-  pub move_more : (b' : B) (w : Tables) → i < n → Ends steps (move v g c i (page_at v.pages c i)) b w b' → Leads steps whole b₀ (move_all (range_with_len (i + 1) (n - (i + 1))) g c w) b'
+module _ {B : Type 0} (steps : RowRule B) (whole : LogRule LogState) (b₀ b : B) (g c i n : ℕ) (l : LogState) (inv : Leads steps whole b₀ (move_all (range_with_len i (n - i)) g c l) b) where
+  pub move_more : (b' : B) (k : LogState) → i < n → Ends steps (move l g c i (page_at l.tables.pages c i)) b k b' → Leads steps whole b₀ (move_all (range_with_len (i + 1) (n - (i + 1))) g c k) b'
   unfolding move_all
-  move_more b' w h run = leads_bind steps whole b₀ b b' (move v g c i (page_at v.pages c i)) (λ x. move_all (range_with_len (i + 1) (n - (i + 1))) g c x) w (rw (span_more i n h) at inv) run
+  move_more b' k h run = leads_bind steps whole b₀ b b' (move l g c i (page_at l.tables.pages c i)) (λ x. move_all (range_with_len (i + 1) (n - (i + 1))) g c x) k (rw (span_more i n h) at inv) run
 
-  pub move_end : n ≤ i → Ends steps whole b₀ v b
+  pub move_end : n ≤ i → Ends steps whole b₀ l b
   unfolding move_all
-  move_end h = leads_give steps whole b₀ b v (rw (span_none i n h) at inv)
+  move_end h = leads_give steps whole b₀ b l (rw (span_none i n h) at inv)
 
-pub cleans : {B : Type 0} (steps : RowRule B) (v w x : Tables) (g c : ℕ) (b m e : B) → Ends steps (move_all (range_with_len 0 v.shape.servers) g c v) b w m → Ends steps (release w c) m x e → Ends steps (clean v g (Some c)) b x e
+pub cleans : {B : Type 0} (steps : RowRule B) (l k x : LogState) (g c : ℕ) (b m e : B) → Ends steps (move_all (range_with_len 0 l.tables.shape.servers) g c l) b k m → Ends steps (release k c) m x e → Ends steps (clean l g (Some c)) b x e
 unfolding clean
-cleans steps v w x g c b m e moves frees = ends_bind steps (move_all (range_with_len 0 v.shape.servers) g c v) (λ y. release y c) b m e w x moves frees
+cleans steps l k x g c b m e moves frees = ends_bind steps (move_all (range_with_len 0 l.tables.shape.servers) g c l) (λ y. release y c) b m e k x moves frees
 
-module _ {B : Type 0} (steps : RowRule B) (v : Tables) (g : ℕ) (b e : B) (next : next_free v ≡ Some g) where
-  pub opens_next : (w : Tables) → 1 < free_count v → w ≡ opened v g → Ends steps (open_next_rule v (next_free v)) b (ready g w) b
+module _ {B : Type 0} (steps : RowRule B) (l : LogState) (g : ℕ) (b e : B) (next : next_free l.tables ≡ Some g) where
+  abbrev after : LogState
+  after = with_tables l (opened l.tables g)
+
+  pub opens_next : (k : LogState) → 1 < free_count l.tables → k ≡ after → Ends steps (open_next_rule l (next_free l.tables)) b (ready g k) b
   unfolding open_next_rule
-  opens_next w h same = rw (next, lt-ltb 1 (free_count v) h, same) (ends_give steps (ready g (opened v g)) b)
+  opens_next k h same = rw (next, lt-ltb 1 (free_count l.tables) h, same) (ends_give steps (ready g after) b)
 
-  pub opens_last : (c : ℕ) (w : Tables) → free_count v ≤ 1 → fewest_live v ≡ Some c → Ends steps (clean (opened v g) g (Some c)) b w e → Ends steps (open_next_rule v (next_free v)) b (ready g w) e
+  pub opens_last : (c : ℕ) (k : LogState) → free_count l.tables ≤ 1 → fewest_live l.tables ≡ Some c → Ends steps (clean after g (Some c)) b k e → Ends steps (open_next_rule l (next_free l.tables)) b (ready g k) e
   unfolding open_next_rule
-  opens_last c w h few run = rw (next, le-ltb 1 (free_count v) h, few) (ends_bind steps (clean (opened v g) g (Some c)) (λ x. give (ready g x)) b e e w (ready g w) run (ends_give steps (ready g w) e))
+  opens_last c k h few run = rw (next, le-ltb 1 (free_count l.tables) h, few) (ends_bind steps (clean after g (Some c)) (λ x. give (ready g x)) b e e k (ready g k) run (ends_give steps (ready g k) e))
 
-module _ {B : Type 0} (steps : RowRule B) (v : Tables) (o : Option ℕ) (b e : B) where
-  pub open_already : (g : ℕ) → o ≡ Some g → Ends steps (with_open v o) b (ready g v) b
+module _ {B : Type 0} (steps : RowRule B) (l : LogState) (o : Option ℕ) (b e : B) where
+  pub open_already : (g : ℕ) → o ≡ Some g → Ends steps (with_open l o) b (ready g l) b
   unfolding with_open
-  open_already g q = rw q (ends_give steps (ready g v) b)
+  open_already g q = rw q (ends_give steps (ready g l) b)
 
-  pub none_open : (r : Ready) → o ≡ None → Ends steps (open_next_rule v (next_free v)) b r e → Ends steps (with_open v o) b r e
+  pub none_open : (r : Ready) → o ≡ None → Ends steps (open_next_rule l (next_free l.tables)) b r e → Ends steps (with_open l o) b r e
   unfolding with_open
   none_open r q run = rw q run
 

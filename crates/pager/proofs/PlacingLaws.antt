@@ -2,59 +2,64 @@
 use Rattle.std.proofs.Common.{◌≡◌, ℕ, ◌+◌, ◌-◌, ◌<◌, ◌≤◌, true, false, List, is_ok, Some, None, Option, Result, refl, subst, eq-eqb, ne_eqb}
 use Rattle.std.specs.List.{range_with_len}
 use Rattle.page.specs.declared.faults.Fault.{Fault}
+use Rattle.page.specs.Pages.{zeros}
 use Rattle.server.specs.Calls.{to_put, to_free}
 use Rattle.bank.specs.Rows.{RowRule}
-use Rattle.parity_log.specs.declared.records.Tables.{Tables}
+use Rattle.parity_log.specs.LogState.{LogState, log_of, with_tables}
 use Rattle.parity_log.specs.declared.records.GroupState.TheVariants.{Free}
 use Rattle.parity_log.specs.Rule.{give, Ends}
 use Rattle.parity_log.specs.Tables.{with_state}
 use Rattle.parity_log.specs.Reading.{LogRule}
-use Rattle.parity_log.specs.Paging.{place, placed, free_on, release, release_old, released_old, unused, close_full, closed_full, shut}
+use Rattle.parity_log.specs.Paging.{place, placed_log, free_on, release, release_old, released_old, unused, close_full, closed_log, shut}
 use Rattle.parity_log.proofs.RuleLaws.{Leads, leads_ask, leads_give, ends_ask, ends_give}
 use Rattle.pager.specs.Places.{placed_as}
 use Rattle.pager.proofs.AskingLaws.{span_more, span_none}
 
-pub closed_now : (v : Tables) (g : ℕ) → v.filled ≡ v.shape.servers → closed_full v g ≡ shut v g
-closed_now v g h = rw (eq-eqb v.filled v.shape.servers h) refl
+pub closed_now : (l : LogState) (g : ℕ) → l.tables.filled ≡ l.tables.shape.servers → closed_log l g ≡ log_of (shut l.tables g) zeros
+closed_now l g h = rw (eq-eqb l.tables.filled l.tables.shape.servers h) refl
 
-pub open_still : (v : Tables) (g : ℕ) → (v.filled ≡ v.shape.servers → ⊥) → closed_full v g ≡ v
-open_still v g h = rw (ne_eqb v.filled v.shape.servers h) refl
+pub open_still : (l : LogState) (g : ℕ) → (l.tables.filled ≡ l.tables.shape.servers → ⊥) → closed_log l g ≡ l
+open_still l g h = rw (ne_eqb l.tables.filled l.tables.shape.servers h) refl
 
-module _ {B : Type 0} (steps : RowRule B) (whole : LogRule Tables) (b₀ b : B) (g k n : ℕ) (v : Tables) (inv : Leads steps whole b₀ (free_on (range_with_len k (n - k)) g v) b) where
-  pub free_more : (b' : B) (a : Result (Unit {0}) Fault) → k < n → steps b k (to_free g) a b' → Leads steps whole b₀ (free_on (range_with_len (k + 1) (n - (k + 1))) g v) b'
+module _ {B : Type 0} (steps : RowRule B) (whole : LogRule LogState) (b₀ b : B) (g k n : ℕ) (l : LogState) (inv : Leads steps whole b₀ (free_on (range_with_len k (n - k)) g l) b) where
+  pub free_more : (b' : B) (a : Result (Unit {0}) Fault) → k < n → steps b k (to_free g) a b' → Leads steps whole b₀ (free_on (range_with_len (k + 1) (n - (k + 1))) g l) b'
   unfolding free_on
-  free_more b' a h st = leads_ask steps whole b₀ b b' k (to_free g) (λ _. free_on (range_with_len (k + 1) (n - (k + 1))) g v) a (rw (span_more k n h) at inv) st
+  free_more b' a h st = leads_ask steps whole b₀ b b' k (to_free g) (λ _. free_on (range_with_len (k + 1) (n - (k + 1))) g l) a (rw (span_more k n h) at inv) st
 
-  pub free_end : n ≤ k → Ends steps whole b₀ v b
+  pub free_end : n ≤ k → Ends steps whole b₀ l b
   unfolding free_on
-  free_end h = leads_give steps whole b₀ b v (rw (span_none k n h) at inv)
+  free_end h = leads_give steps whole b₀ b l (rw (span_none k n h) at inv)
 
-module _ {B : Type 0} (steps : RowRule B) (v : Tables) (g : ℕ) (b e : B) where
-  pub closes : (a : Result (Unit {0}) Fault) → v.filled ≡ v.shape.servers → steps b v.shape.servers (to_put g v.parity.0) a e → Ends steps (close_full v g) b (shut v g) e
+module _ {B : Type 0} (steps : RowRule B) (l : LogState) (g : ℕ) (b e : B) where
+  abbrev closed : LogState
+  closed = log_of (shut l.tables g) zeros
+
+  pub closes : (a : Result (Unit {0}) Fault) → l.tables.filled ≡ l.tables.shape.servers → steps b l.tables.shape.servers (to_put g l.running) a e → Ends steps (close_full l g) b closed e
   unfolding close_full
-  closes a h st = rw (eq-eqb v.filled v.shape.servers h) (ends_ask steps v.shape.servers (to_put g v.parity.0) (λ _. give (shut v g)) b e e a (shut v g) st (ends_give steps (shut v g) e))
+  closes a h st = rw (eq-eqb l.tables.filled l.tables.shape.servers h) (ends_ask steps l.tables.shape.servers (to_put g l.running) (λ _. give closed) b e e a closed st (ends_give steps closed e))
 
-  pub stays_open : (v.filled ≡ v.shape.servers → ⊥) → Ends steps (close_full v g) b v b
+  pub stays_open : (l.tables.filled ≡ l.tables.shape.servers → ⊥) → Ends steps (close_full l g) b l b
   unfolding close_full
-  stays_open h = rw (ne_eqb v.filled v.shape.servers h) (ends_give steps v b)
+  stays_open h = rw (ne_eqb l.tables.filled l.tables.shape.servers h) (ends_give steps l b)
 
-  pub places : (p : ℕ) (x : List ℕ) (a : Result (Unit {0}) Fault) → steps b v.filled (to_put g x) a e → Ends steps (place v g p x) b (placed_as (is_ok a) (placed v g p x)) e
+  pub places : (p : ℕ) (x : List ℕ) (a : Result (Unit {0}) Fault) → steps b l.tables.filled (to_put g x) a e → Ends steps (place l g p x) b (placed_as (is_ok a) (placed_log l g p x)) e
   unfolding place
-  places p x a st = ends_ask steps v.filled (to_put g x) (λ d. give (placed_as (is_ok d) (placed v g p x))) b e e a (placed_as (is_ok a) (placed v g p x)) st (ends_give steps (placed_as (is_ok a) (placed v g p x)) e)
+  places p x a st = ends_ask steps l.tables.filled (to_put g x) (λ d. give (placed_as (is_ok d) (placed_log l g p x))) b e e a (placed_as (is_ok a) (placed_log l g p x)) st (ends_give steps (placed_as (is_ok a) (placed_log l g p x)) e)
 
-module _ {B : Type 0} (steps : RowRule B) (v : Tables) (b e : B) where
-  pub releases : (g : ℕ) (w : Tables) → w ≡ with_state v g Free → Ends steps (free_on (range_with_len 0 (w.shape.servers + 1)) g w) b w e → Ends steps (release v g) b w e
+module _ {B : Type 0} (steps : RowRule B) (l : LogState) (b e : B) where
+  pub releases : (g : ℕ) (m : LogState) → m ≡ with_tables l (with_state l.tables g Free) → Ends steps (free_on (range_with_len 0 (m.tables.shape.servers + 1)) g m) b m e → Ends steps (release l g) b m e
   unfolding release
-  releases g w q run = subst (λ (x : Tables). Ends steps (free_on (range_with_len 0 (x.shape.servers + 1)) g x) b w e) q run
+  releases g m q run = subst (λ (x : LogState). Ends steps (free_on (range_with_len 0 (x.tables.shape.servers + 1)) g x) b m e) q run
 
-  pub leaves_unused : (old : Option ℕ) (g : ℕ) (w : Tables) → old ≡ Some g → unused v g ≡ true → Ends steps (release v g) b w e → w ≡ with_state v g Free → Ends steps (release_old old v) b w e × (w ≡ released_old old v)
+  pub leaves_unused : (old : Option ℕ) (g : ℕ) (m : LogState) → old ≡ Some g → unused l.tables g ≡ true → Ends steps (release l g) b m e → m ≡ with_tables l (with_state l.tables g Free)
+      → Ends steps (release_old old l) b m e × (m ≡ with_tables l (released_old old l.tables))
   unfolding release_old
-  leaves_unused old g w q u run same = rw (q, u) (run, same)
+  leaves_unused old g m q u run same = rw (q, u) (run, same)
 
-  pub leaves_used : (old : Option ℕ) (g : ℕ) → old ≡ Some g → unused v g ≡ false → Ends steps (release_old old v) b v b × (v ≡ released_old old v)
+  pub leaves_used : (old : Option ℕ) (g : ℕ) → old ≡ Some g → unused l.tables g ≡ false → Ends steps (release_old old l) b l b × (l ≡ with_tables l (released_old old l.tables))
   unfolding release_old
-  leaves_used old g q u = rw (q, u) (ends_give steps v b, refl)
+  leaves_used old g q u = rw (q, u) (ends_give steps l b, refl)
 
-  pub leaves_none : (old : Option ℕ) → old ≡ None → Ends steps (release_old old v) b v b × (v ≡ released_old old v)
+  pub leaves_none : (old : Option ℕ) → old ≡ None → Ends steps (release_old old l) b l b × (l ≡ with_tables l (released_old old l.tables))
   unfolding release_old
-  leaves_none old q = rw q (ends_give steps v b, refl)
+  leaves_none old q = rw q (ends_give steps l b, refl)

@@ -4,7 +4,6 @@ use Rattle.page.specs.declared.faults.Fault.{Fault}
 use Rattle.server.specs.Calls.{Call, Answer}
 use Rattle.server.specs.Meaning.{Meaning}
 use Rattle.bank.specs.Rows.{RowRule, Rowed}
-use Rattle.parity_log.specs.declared.ledger.Ledger.{Ledger}
 use Rattle.parity_log.specs.declared.records.Progress.{Progress}
 use Rattle.parity_log.specs.Paging.{told, pageout, free}
 use Rattle.parity_log.specs.Reading.{Finding, LogRule, pagein}
@@ -13,7 +12,7 @@ use Rattle.parity_log.specs.Rule.{Rule, give, ask, note, Runs, Ends}
 use Rattle.law.specs.Rows.{Row, RowStep}
 use Rattle.law.specs.Runs.{Turn, pages_out, pages_in, frees, steps as progresses, Goes}
 use Rattle.pager.specs.declared.log.Log.{Log}
-use Rattle.pager.specs.Moments.{moment_of, Turns}
+use Rattle.pager.specs.Moments.{log_state, moment_of, Turns}
 
 module _ {B : Type 0} (count : B → ℕ) (means : B → ℕ → Meaning) (steps : RowRule B) (laws : Rowed count means steps) where
   -- each note, with what the servers meant at its moment
@@ -37,7 +36,7 @@ module _ {B : Type 0} (count : B → ℕ) (means : B → ℕ → Meaning) (steps
 
   -- a call that ran a rule is a turn, if such a run is what the turn does
   ran_turn : {A : Type 0} (p q : Log B) (rule : LogRule A) (r : A) (turn : List (Finding × Row) → Turn)
-      → ((fs : List (Finding × Row)) → Runs (RowStep (count p.bank)) rule (means p.bank) fs r (means q.bank) → Goes (moment_of count means p) (turn fs) q.ledger.tables (means q.bank))
+      → ((fs : List (Finding × Row)) → Runs (RowStep (count p.bank)) rule (means p.bank) fs r (means q.bank) → Goes (moment_of count means p) (turn fs) (log_state q) (means q.bank))
       → Ends steps rule p.bank r q.bank → Turns (moment_of count means p) turn (moment_of count means q)
   ran_turn p q rule r turn does h =
       let all = runs_seen (count p.bank) rule p.bank q.bank h.0 r refl h.1 in
@@ -45,16 +44,16 @@ module _ {B : Type 0} (count : B → ℕ) (means : B → ℕ → Meaning) (steps
 
   -- the calls that ask servers, each of them the turn of its name
   module _ (p q : Log B) where
-    pub pageout_turn : (n : ℕ) (x : List ℕ) (r : Result (Unit {0}) Fault) → Ends steps (pageout p.ledger.tables n x) p.bank (told r q.ledger.tables) q.bank → Turns (moment_of count means p) (pages_out n x r) (moment_of count means q)
-    pageout_turn n x r run = ran_turn p q (pageout p.ledger.tables n x) (told r q.ledger.tables) (pages_out n x r) (λ _ h. h) run
+    pub pageout_turn : (n : ℕ) (x : List ℕ) (r : Result (Unit {0}) Fault) → Ends steps (pageout (log_state p) n x) p.bank (told r (log_state q)) q.bank → Turns (moment_of count means p) (pages_out n x r) (moment_of count means q)
+    pageout_turn n x r run = ran_turn p q (pageout (log_state p) n x) (told r (log_state q)) (pages_out n x r) (λ _ h. h) run
 
-    pub free_turn : (n : ℕ) (r : Result (Unit {0}) Fault) → Ends steps (free p.ledger.tables n) p.bank (told r q.ledger.tables) q.bank → Turns (moment_of count means p) (frees n r) (moment_of count means q)
-    free_turn n r run = ran_turn p q (free p.ledger.tables n) (told r q.ledger.tables) (frees n r) (λ _ h. h) run
+    pub free_turn : (n : ℕ) (r : Result (Unit {0}) Fault) → Ends steps (free (log_state p) n) p.bank (told r (log_state q)) q.bank → Turns (moment_of count means p) (frees n r) (moment_of count means q)
+    free_turn n r run = ran_turn p q (free (log_state p) n) (told r (log_state q)) (frees n r) (λ _ h. h) run
 
-  -- and those that leave the ledger
-  module _ (p q : Log B) (same : q.ledger ≡ p.ledger) where
-    pub pagein_turn : (n len : ℕ) (a : Result (List ℕ) Fault) → Ends steps (pagein p.ledger.tables n len) p.bank a q.bank → Turns (moment_of count means p) (pages_in n len a) (moment_of count means q)
-    pagein_turn n len a run = ran_turn p q (pagein p.ledger.tables n len) a (pages_in n len a) (λ _ h. (h, ap (λ (l : Ledger). l.tables) same)) run
+  -- and those that leave what the log keeps
+  module _ (p q : Log B) (same : log_state q ≡ log_state p) where
+    pub pagein_turn : (n len : ℕ) (a : Result (List ℕ) Fault) → Ends steps (pagein (log_state p) n len) p.bank a q.bank → Turns (moment_of count means p) (pages_in n len a) (moment_of count means q)
+    pagein_turn n len a run = ran_turn p q (pagein (log_state p) n len) a (pages_in n len a) (λ _ h. (h, same)) run
 
-    pub step_turn : (j k : Progress) (r : Result (Unit {0}) Fault) → Ends steps (step p.ledger.tables j) p.bank (stepped r k) q.bank → Turns (moment_of count means p) (progresses j r k) (moment_of count means q)
-    step_turn j k r run = ran_turn p q (step p.ledger.tables j) (stepped r k) (progresses j r k) (λ _ h. (h, ap (λ (l : Ledger). l.tables) same)) run
+    pub step_turn : (j k : Progress) (r : Result (Unit {0}) Fault) → Ends steps (step (log_state p) j) p.bank (stepped r k) q.bank → Turns (moment_of count means p) (progresses j r k) (moment_of count means q)
+    step_turn j k r run = ran_turn p q (step (log_state p) j) (stepped r k) (progresses j r k) (λ _ h. (h, same)) run

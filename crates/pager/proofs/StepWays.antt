@@ -4,6 +4,7 @@ use Rattle.page.specs.declared.faults.Fault.{Fault}
 use Rattle.bank.specs.Rows.{RowRule}
 use Rattle.parity_log.specs.declared.records.Progress.{Progress}
 use Rattle.parity_log.specs.declared.records.Shape.{Shape}
+use Rattle.parity_log.specs.LogState.{LogState}
 use Rattle.parity_log.specs.declared.records.Tables.{Tables}
 use Rattle.parity_log.specs.Rule.{Ends}
 use Rattle.parity_log.specs.Faults.{made_shape, refused_by}
@@ -14,11 +15,11 @@ use Rattle.pager.proofs.Admitting.{refused_at, let_in}
 pub begin_let_in : (v : Tables) (s : Shape) (k : ℕ) → Ok s ≡ made_shape v → k ≤ s.servers → Ok (begun s k) ≡ begin v k
 begin_let_in v s k made low = search rules
 
-module _ {B : Type 0} (steps : RowRule B) (v : Tables) (j : Progress) (b e : B) where
-  pub step_refused : (f : Fault) → Err f ≡ refused_by (misfit v j) → Ends steps (step v j) b (stepped (Err f) j) b
+module _ {B : Type 0} (steps : RowRule B) (l : LogState) (j : Progress) (b e : B) where
+  pub step_refused : (f : Fault) → Err f ≡ refused_by (misfit l.tables j) → Ends steps (step l j) b (stepped (Err f) j) b
   unfolding step
-  step_refused f q = refused_at steps b (λ a. stepped a j) (λ o. step_unless o v j) (λ _. refl) (misfit v j) (Err f) f f refl refl q
+  step_refused f q = refused_at steps b (λ a. stepped a j) (λ o. step_unless o l j) (λ _. refl) (misfit l.tables j) (Err f) f f refl refl q
 
-  pub step_let_in : (r : Stepped) → AdmittedJob v j → Ends steps (step_unless None v j) b r e → Ends steps (step v j) b r e
+  pub step_let_in : (r : Stepped) → AdmittedJob l.tables j → Ends steps (step_unless None l j) b r e → Ends steps (step l j) b r e
   unfolding step
-  step_let_in r = let_in steps b (λ a. stepped a j) (λ o. step_unless o v j) (λ _. refl) (misfit v j) r e
+  step_let_in r = let_in steps b (λ a. stepped a j) (λ o. step_unless o l j) (λ _. refl) (misfit l.tables j) r e

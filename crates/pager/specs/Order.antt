@@ -5,6 +5,7 @@ use Rattle.parity_log.specs.declared.records.Shape.{Shape}
 use Rattle.parity_log.specs.Tables.{within}
 use Rattle.parity_log.specs.Order.{Order}
 use Rattle.pager.specs.declared.log.Log.{Log}
+use Rattle.pager.specs.Moments.{log_state}
 
 -- the bank has a server for each position and one for the parity, each with a slot for every group
 pub record Fitted {B : Type 0} (count : B → ℕ) (means : B → ℕ → Meaning) (s : Shape) (b : B) : Type 0 where
@@ -12,5 +13,5 @@ pub record Fitted {B : Type 0} (count : B → ℕ) (means : B → ℕ → Meanin
   pub sizes : (k : ℕ) → k ≤ s.servers → s.groups ≤ (means b k).size
 
 pub record Ordered {B : Type 0} (count : B → ℕ) (means : B → ℕ → Meaning) (p : Log B) : Type 0 where
-  pub tables : Order p.ledger.tables
+  pub log : Order (log_state p)
   pub fitted : within p.ledger.tables.shape ≡ true → Fitted count means p.ledger.tables.shape p.bank

@@ -2,15 +2,15 @@ ghost use Rattle.std.specs.Prelude.{◌≡◌, ◌+◌, ◌<◌, ◌≤◌, true
 ghost use Rattle.law.specs.Law.{Lawful};
 ghost use Rattle.law.specs.Runs.{Happens, makes};
 ghost use Rattle.parity_log.specs.Making.{decided, made_as, making, sizes};
-ghost use Rattle.parity_log.specs.Tables.{unmade};
-ghost use Rattle.pager.specs.Moments.{moment_of};
+ghost use Rattle.parity_log.specs.LogState.{unmade_log};
+ghost use Rattle.pager.specs.Moments.{log_state, moment_of};
 ghost use Rattle.pager.specs.Order.{Ordered};
 ghost use Rattle.std.specs.List.{list_all};
 
 use crate::Pager;
 use crate::log::Log;
 use bank::Bank;
-use page::{Fault, Layer, Refusal};
+use page::{Fault, Layer, Page, Refusal};
 use parity_log::{Ledger, Shape};
 
 impl<B: Bank> Log<B> {
@@ -51,22 +51,25 @@ impl<B: Bank> Pager<B> {
     // A pager that is not made yet: it has a shape that no pager can have.
     pub fn new(bank: B) -> Pager<B>
         ensures bank { result.log.bank ≡ bank }
-        ensures tables { result.log.ledger.tables ≡ unmade }
+        ensures log { log_state result.log ≡ unmade_log }
     {
         let unmade = Shape {
             servers: 0,
             groups: 0,
             spares: 0,
         };
-        let ledger = Ledger::new(unmade);
-        Pager {
-            log: Log { bank, ledger },
-        }
+        let log = Log {
+            running: Page::zero(),
+            ledger: Ledger::new(unmade),
+            bank,
+        };
+        Pager { log }
     }
 
     // Decides the pager's shape, once; answers how many pages it has. From then on every run of the pager is lawful.
     pub fn make(&mut self, groups: usize, spares: usize) -> Result<usize, Fault>
         ensures bank { self.new.log.bank ≡ self.old.log.bank }
+        ensures running { self.new.log.running ≡ self.old.log.running }
         ensures made { making self.old.log.ledger.tables (B.Bank.count self.old.log.bank) (B.Bank.means self.old.log.bank) groups spares ≡ made_as result self.new.log.ledger.tables }
         ensures turn { Happens (moment_of B.Bank.count B.Bank.means self.old.log) (makes groups spares result) (moment_of B.Bank.count B.Bank.means self.new.log) }
         ensures lawful { is_ok result ≡ true → Lawful (moment_of B.Bank.count B.Bank.means self.new.log) }
@@ -90,7 +93,11 @@ impl<B: Bank> Pager<B> {
         ensures { result ≡ self.log.bank }
     {
         let Pager { log } = self;
-        let Log { bank, ledger: _ } = log;
+        let Log {
+            running: _,
+            ledger: _,
+            bank,
+        } = log;
         bank
     }
 }

@@ -3,7 +3,7 @@ ghost use Rattle.parity_log.specs.Faults.{lost_page};
 ghost use Rattle.parity_log.specs.Reading.{pagein as pagein_rule};
 ghost use Rattle.parity_log.specs.Rule.{Ends};
 ghost use Rattle.pager.specs.Admitted.{Admitted};
-ghost use Rattle.pager.specs.Moments.{Turns, moment_of};
+ghost use Rattle.pager.specs.Moments.{Turns, log_state, moment_of};
 ghost use Rattle.pager.specs.Order.{Ordered};
 ghost use Rattle.server.specs.Calls.{Left, filled};
 ghost use Rattle.std.specs.Prelude.{◌≡◌, length};
@@ -29,8 +29,9 @@ impl<B: Bank> Log<B> {
         requires order { Ordered B.Bank.count B.Bank.means self.old }
         requires admitted { Admitted self.old.ledger.tables page (length buffer.old) }
         ensures order { Ordered B.Bank.count B.Bank.means self.new }
-        ensures ran { Ends B.Bank.steps (pagein_rule self.old.ledger.tables page (length buffer.old)) self.old.bank (filled result buffer.new) self.new.bank }
+        ensures ran { Ends B.Bank.steps (pagein_rule (log_state self.old) page (length buffer.old)) self.old.bank (filled result buffer.new) self.new.bank }
         ensures tables { self.new.ledger ≡ self.old.ledger }
+        ensures running { self.new.running ≡ self.old.running }
         ensures left { Left result buffer.old buffer.new }
         ensures turn { Turns (moment_of B.Bank.count B.Bank.means self.old) (λ fs. pages_in page (length buffer.old) (filled result buffer.new) fs) (moment_of B.Bank.count B.Bank.means self.new) }
     {
@@ -48,8 +49,9 @@ impl<B: Bank> Log<B> {
 impl<B: Bank> Pager<B> {
     // Reads a page into the buffer. A page that can't be read now stays out: its servers may come back.
     pub fn pagein(&mut self, page: usize, buffer: &mut [u8]) -> Result<(), Fault>
-        ensures ran { Ends B.Bank.steps (pagein_rule self.old.log.ledger.tables page (length buffer.old)) self.old.log.bank (filled result buffer.new) self.new.log.bank }
+        ensures ran { Ends B.Bank.steps (pagein_rule (log_state self.old.log) page (length buffer.old)) self.old.log.bank (filled result buffer.new) self.new.log.bank }
         ensures tables { self.new.log.ledger ≡ self.old.log.ledger }
+        ensures running { self.new.log.running ≡ self.old.log.running }
         ensures left { Left result buffer.old buffer.new }
         ensures turn { Turns (moment_of B.Bank.count B.Bank.means self.old.log) (λ fs. pages_in page (length buffer.old) (filled result buffer.new) fs) (moment_of B.Bank.count B.Bank.means self.new.log) }
     {

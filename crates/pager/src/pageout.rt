@@ -1,12 +1,12 @@
 ghost use Rattle.std.specs.Prelude.{◌≡◌, ◌<◌, false, length, Ok as Done};
 ghost use Rattle.law.specs.Runs.{frees, pages_out};
-ghost use Rattle.parity_log.specs.Order.{Settled};
+ghost use Rattle.parity_log.specs.Order.{SettledLog};
 ghost use Rattle.parity_log.specs.Paging.{ending, free as free_rule, pageout, steps as steps_rule, told};
 ghost use Rattle.parity_log.specs.Rule.{Ends};
 ghost use Rattle.parity_log.specs.Tables.{capacity, page_state};
 ghost use Rattle.parity_log.specs.declared.records.PageState.TheVariants.{Out};
 ghost use Rattle.pager.specs.Admitted.{Admitted};
-ghost use Rattle.pager.specs.Moments.{Turns, moment_of};
+ghost use Rattle.pager.specs.Moments.{Turns, log_state, moment_of};
 ghost use Rattle.pager.specs.Order.{Ordered};
 
 use crate::Pager;
@@ -19,12 +19,12 @@ use parity_log::PageState;
 impl<B: Bank> Log<B> {
     // After a refused put, the page stays out only if all other members deliver.
     fn judge(&mut self, group: usize, position: usize, page: usize) -> Result<(), Fault>
-        requires settled { Settled self.old.ledger.tables }
+        requires settled { SettledLog (log_state self.old) }
         requires page { page < capacity self.old.ledger.tables.shape }
         requires there { page_state self.old.ledger.tables page ≡ Out group position }
-        ensures settled { Settled self.new.ledger.tables }
+        ensures settled { SettledLog (log_state self.new) }
         ensures shape { self.new.ledger.tables.shape ≡ self.old.ledger.tables.shape }
-        ensures ran { Ends B.Bank.steps (ending self.old.ledger.tables page group position false) self.old.bank (told result self.new.ledger.tables) self.new.bank }
+        ensures ran { Ends B.Bank.steps (ending (log_state self.old) page group position false) self.old.bank (told result (log_state self.new)) self.new.bank }
     {
         let Err(others) = self.gather(group, position) else {
             return Ok(());
@@ -38,11 +38,11 @@ impl<B: Bank> Log<B> {
 
     // The steps of a pageout, once nothing is wrong with the call.
     fn page_out(&mut self, page: usize, bytes: &[u8; PAGE_SIZE]) -> Result<(), Fault>
-        requires settled { Settled self.old.ledger.tables }
+        requires settled { SettledLog (log_state self.old) }
         requires page { page < capacity self.old.ledger.tables.shape }
-        ensures settled { Settled self.new.ledger.tables }
+        ensures settled { SettledLog (log_state self.new) }
         ensures shape { self.new.ledger.tables.shape ≡ self.old.ledger.tables.shape }
-        ensures ran { Ends B.Bank.steps (steps_rule self.old.ledger.tables page bytes.now) self.old.bank (told result self.new.ledger.tables) self.new.bank }
+        ensures ran { Ends B.Bank.steps (steps_rule (log_state self.old) page bytes.now) self.old.bank (told result (log_state self.new)) self.new.bank }
     {
         let group = self.ready();
         let position = self.ledger.tables.filled;
@@ -50,10 +50,10 @@ impl<B: Bank> Log<B> {
         let done = self.place(group, page, bytes);
         self.release_old(state.group());
         self.close_full(group);
-        match done {
-            Ok(_) => Ok(()),
-            Err(_) => self.judge(group, position, page),
+        if done {
+            return Ok(());
         }
+        self.judge(group, position, page)
     }
 }
 
@@ -63,7 +63,7 @@ impl<B: Bank> Log<B> {
         requires order { Ordered B.Bank.count B.Bank.means self.old }
         requires admitted { Admitted self.old.ledger.tables page (length bytes.now) }
         ensures order { Ordered B.Bank.count B.Bank.means self.new }
-        ensures ran { Ends B.Bank.steps (pageout self.old.ledger.tables page bytes.now) self.old.bank (told result self.new.ledger.tables) self.new.bank }
+        ensures ran { Ends B.Bank.steps (pageout (log_state self.old) page bytes.now) self.old.bank (told result (log_state self.new)) self.new.bank }
         ensures turn { Turns (moment_of B.Bank.count B.Bank.means self.old) (λ fs. pages_out page bytes.now result fs) (moment_of B.Bank.count B.Bank.means self.new) }
     {
         match <&[u8; PAGE_SIZE]>::try_from(bytes) {
@@ -76,7 +76,7 @@ impl<B: Bank> Log<B> {
         requires order { Ordered B.Bank.count B.Bank.means self.old }
         requires admitted { Admitted self.old.ledger.tables page 512 }
         ensures order { Ordered B.Bank.count B.Bank.means self.new }
-        ensures ran { Ends B.Bank.steps (free_rule self.old.ledger.tables page) self.old.bank (told (Done tt) self.new.ledger.tables) self.new.bank }
+        ensures ran { Ends B.Bank.steps (free_rule (log_state self.old) page) self.old.bank (told (Done tt) (log_state self.new)) self.new.bank }
         ensures turn { Turns (moment_of B.Bank.count B.Bank.means self.old) (λ fs. frees page (Done tt) fs) (moment_of B.Bank.count B.Bank.means self.new) }
     {
         let state = self.ledger.tables.pages[page];
@@ -88,7 +88,7 @@ impl<B: Bank> Log<B> {
 impl<B: Bank> Pager<B> {
     // Puts a page out: into the open group, or one that is opened for it. A page whose put was refused, and that can't be restored, is lost.
     pub fn pageout(&mut self, page: usize, bytes: &[u8]) -> Result<(), Fault>
-        ensures ran { Ends B.Bank.steps (pageout self.old.log.ledger.tables page bytes.now) self.old.log.bank (told result self.new.log.ledger.tables) self.new.log.bank }
+        ensures ran { Ends B.Bank.steps (pageout (log_state self.old.log) page bytes.now) self.old.log.bank (told result (log_state self.new.log)) self.new.log.bank }
         ensures turn { Turns (moment_of B.Bank.count B.Bank.means self.old.log) (λ fs. pages_out page bytes.now result fs) (moment_of B.Bank.count B.Bank.means self.new.log) }
     {
         self.log.ledger.tables.admit(page, bytes.len())?;
@@ -97,7 +97,7 @@ impl<B: Bank> Pager<B> {
 
     // Lets a page go, whatever it was.
     pub fn free(&mut self, page: usize) -> Result<(), Fault>
-        ensures ran { Ends B.Bank.steps (free_rule self.old.log.ledger.tables page) self.old.log.bank (told result self.new.log.ledger.tables) self.new.log.bank }
+        ensures ran { Ends B.Bank.steps (free_rule (log_state self.old.log) page) self.old.log.bank (told result (log_state self.new.log)) self.new.log.bank }
         ensures turn { Turns (moment_of B.Bank.count B.Bank.means self.old.log) (λ fs. frees page result fs) (moment_of B.Bank.count B.Bank.means self.new.log) }
     {
         self.log.ledger.tables.admit(page, PAGE_SIZE)?;

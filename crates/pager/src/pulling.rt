@@ -17,6 +17,7 @@ impl<B: PullableBank> Log<B> {
         requires { Ordered B.Bank.count B.Bank.means self.old }
         ensures order { Ordered B.Bank.count B.Bank.means self.new }
         ensures tables { self.new.ledger ≡ self.old.ledger }
+        ensures running { self.new.running ≡ self.old.running }
         ensures falls { B.PullableBank.falls self.old.bank server result self.new.bank }
         ensures meets { Meets B.Bank.count B.Bank.means Fell self.old.bank server result self.new.bank }
         ensures turn { AtMost (moment_of B.Bank.count B.Bank.means self.old) (loses server) (moment_of B.Bank.count B.Bank.means self.new) }
@@ -29,6 +30,7 @@ impl<B: PullableBank> Log<B> {
         requires { Ordered B.Bank.count B.Bank.means self.old }
         ensures order { Ordered B.Bank.count B.Bank.means self.new }
         ensures tables { self.new.ledger ≡ self.old.ledger }
+        ensures running { self.new.running ≡ self.old.running }
         ensures backs { B.PullableBank.backs self.old.bank server result self.new.bank }
         ensures meets { Meets B.Bank.count B.Bank.means Backs self.old.bank server result self.new.bank }
         ensures turn { AtMost (moment_of B.Bank.count B.Bank.means self.old) (returns server) (moment_of B.Bank.count B.Bank.means self.new) }
@@ -41,6 +43,7 @@ impl<B: PullableBank> Pager<B> {
     // Makes a server fall.
     pub fn fall(&mut self, server: usize) -> Result<(), Fault>
         ensures tables { self.new.log.ledger ≡ self.old.log.ledger }
+        ensures running { self.new.log.running ≡ self.old.log.running }
         ensures falls { HandsOn B.PullableBank.falls self.old.log.ledger.tables.shape self.old.log.bank server result self.new.log.bank }
         ensures meets { HandsOn (Meets B.Bank.count B.Bank.means Fell) self.old.log.ledger.tables.shape self.old.log.bank server result self.new.log.bank }
         ensures turn { AtMost (moment_of B.Bank.count B.Bank.means self.old.log) (loses server) (moment_of B.Bank.count B.Bank.means self.new.log) }
@@ -52,6 +55,7 @@ impl<B: PullableBank> Pager<B> {
     // Brings a server back; what its bank refuses is handed up whole.
     pub fn back(&mut self, server: usize) -> Result<(), Fault>
         ensures tables { self.new.log.ledger ≡ self.old.log.ledger }
+        ensures running { self.new.log.running ≡ self.old.log.running }
         ensures backs { HandsOn B.PullableBank.backs self.old.log.ledger.tables.shape self.old.log.bank server result self.new.log.bank }
         ensures meets { HandsOn (Meets B.Bank.count B.Bank.means Backs) self.old.log.ledger.tables.shape self.old.log.bank server result self.new.log.bank }
         ensures turn { AtMost (moment_of B.Bank.count B.Bank.means self.old.log) (returns server) (moment_of B.Bank.count B.Bank.means self.new.log) }

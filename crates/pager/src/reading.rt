@@ -1,13 +1,14 @@
 ghost use Rattle.std.specs.Prelude.{◌≡◌, ◌<◌, length, IfErr, Err as Denied};
 ghost use Rattle.page.specs.declared.faults.Fault.{Fault as Refused};
-ghost use Rattle.parity_log.specs.Reading.{Gathered, gather as gather_rule, or_restored, read as read_rule};
+ghost use Rattle.parity_log.specs.Reading.{Gathered, gather as gather_rule, kept, or_restored, read as read_rule};
 ghost use Rattle.parity_log.specs.Rule.{Ends};
 ghost use Rattle.pager.specs.Reads.{AskedOne, Gathers, Unread, reading_of};
+ghost use Rattle.pager.specs.Moments.{log_state};
 
 use crate::log::Log;
 use bank::Bank;
 use page::Page;
-use parity_log::Shape;
+use parity_log::{GroupState, Shape};
 
 // Asks one member: adds what it delivers, or answers its weight.
 fn ask_member<B: Bank>(
@@ -31,16 +32,28 @@ fn ask_member<B: Bank>(
 }
 
 impl<B: Bank> Log<B> {
+    // The member that is asked of nobody: the running parity of an open group.
+    fn kept_page(&self, group: usize) -> Page
+        requires { group < 32 }
+        ensures { result.0 ≡ kept (log_state self.now) group }
+    {
+        match self.ledger.tables.states[group] {
+            GroupState::Open => self.running,
+            GroupState::Free | GroupState::Closed => Page::zero(),
+        }
+    }
+
     // Asks every member of a group but one, whatever the others answer: their sum and the kept page, or else the set of those that refused.
     pub(crate) fn gather(&mut self, group: usize, but: usize) -> Result<Page, u16>
         requires { group < 32 }
         ensures tables { self.new.ledger ≡ self.old.ledger }
+        ensures running { self.new.running ≡ self.old.running }
         ensures few { IfErr result (λ missing. missing < 512) }
-        ensures ran { (q : Gathered) × Ends B.Bank.steps (gather_rule self.old.ledger.tables group but) self.old.bank q self.new.bank × Gathers q result }
+        ensures ran { (q : Gathered) × Ends B.Bank.steps (gather_rule (log_state self.old) group but) self.old.bank q self.new.bank × Gathers q result }
     {
         let shape = self.ledger.tables.shape;
         let count = self.ledger.tables.member_count(group);
-        let mut sum = self.ledger.tables.kept_page(group);
+        let mut sum = self.kept_page(group);
         let mut missing = 0;
         for server in 0..count {
             if server != but {
@@ -56,7 +69,8 @@ impl<B: Bank> Log<B> {
         requires position { position < 8 }
         requires whole { length buffer.old ≡ 512 }
         ensures tables { self.new.ledger ≡ self.old.ledger }
-        ensures ran { (f : Refused) → Ends B.Bank.steps (or_restored self.old.ledger.tables group position (Denied f)) self.old.bank (reading_of result buffer.new) self.new.bank }
+        ensures running { self.new.running ≡ self.old.running }
+        ensures ran { (f : Refused) → Ends B.Bank.steps (or_restored (log_state self.old) group position (Denied f)) self.old.bank (reading_of result buffer.new) self.new.bank }
         ensures left { Unread result buffer.old buffer.new }
     {
         match self.gather(group, position) {
@@ -79,7 +93,8 @@ impl<B: Bank> Log<B> {
         requires position { position < 8 }
         requires whole { length buffer.old ≡ 512 }
         ensures tables { self.new.ledger ≡ self.old.ledger }
-        ensures ran { Ends B.Bank.steps (read_rule self.old.ledger.tables group position) self.old.bank (reading_of result buffer.new) self.new.bank }
+        ensures running { self.new.running ≡ self.old.running }
+        ensures ran { Ends B.Bank.steps (read_rule (log_state self.old) group position) self.old.bank (reading_of result buffer.new) self.new.bank }
         ensures left { Unread result buffer.old buffer.new }
     {
         match self.bank.get(position, group, buffer) {

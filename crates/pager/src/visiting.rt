@@ -2,6 +2,7 @@ ghost use Rattle.std.specs.Prelude.{◌≡◌, ◌+◌, ◌<◌, ◌≤◌, None
 ghost use Rattle.page.specs.declared.faults.Fault.{Fault as Refused};
 ghost use Rattle.parity_log.specs.Rebuilding.{counted as counted_rule, mend as mend_rule, step_unless, stepped, visit as visit_rule};
 ghost use Rattle.parity_log.specs.Rule.{Ends};
+ghost use Rattle.pager.specs.Moments.{log_state};
 
 use crate::job::RebuildJob;
 use crate::log::Log;
@@ -36,7 +37,8 @@ impl<B: Bank> Log<B> {
     fn mend(&mut self, server: usize, group: usize) -> Visit
         requires { group < 32 }
         ensures tables { self.new.ledger ≡ self.old.ledger }
-        ensures ran { (f : Refused) → Ends B.Bank.steps (mend_rule self.old.ledger.tables server group (Denied f)) self.old.bank result self.new.bank }
+        ensures running { self.new.running ≡ self.old.running }
+        ensures ran { (f : Refused) → Ends B.Bank.steps (mend_rule (log_state self.old) server group (Denied f)) self.old.bank result self.new.bank }
     {
         let Ok(sum) = self.gather(group, server) else {
             return Visit::Failed;
@@ -51,7 +53,8 @@ impl<B: Bank> Log<B> {
     fn visit(&mut self, server: usize, group: usize) -> Visit
         requires { group < 32 }
         ensures tables { self.new.ledger ≡ self.old.ledger }
-        ensures ran { Ends B.Bank.steps (visit_rule self.old.ledger.tables server group) self.old.bank result self.new.bank }
+        ensures running { self.new.running ≡ self.old.running }
+        ensures ran { Ends B.Bank.steps (visit_rule (log_state self.old) server group) self.old.bank result self.new.bank }
     {
         if server >= self.ledger.tables.member_count(group) {
             return Visit::Intact;
@@ -67,7 +70,8 @@ impl<B: Bank> Log<B> {
     pub(crate) fn visit_next(&mut self, job: RebuildJob) -> RebuildJob
         requires { job.progress.groups ≤ 32 }
         ensures tables { self.new.ledger ≡ self.old.ledger }
-        ensures ran { Ends B.Bank.steps (step_unless Nothing self.old.ledger.tables job.progress) self.old.bank (stepped (Done tt) result.progress) self.new.bank }
+        ensures running { self.new.running ≡ self.old.running }
+        ensures ran { Ends B.Bank.steps (step_unless Nothing (log_state self.old) job.progress) self.old.bank (stepped (Done tt) result.progress) self.new.bank }
     {
         if job.progress.group >= job.progress.groups {
             return job;

@@ -1,6 +1,7 @@
-//! Prints which shapes a pager takes, and what a long run of calls came to, against a book of its own.
+//! Prints which shapes a pager takes, and what a long run of calls and a passage through the largest pager came to, against books of its own.
 #![tactic(auto)]
 
+mod largest;
 mod runs;
 mod shapes;
 
@@ -11,5 +12,6 @@ fn main(rt: HostRuntime) -> anyhow::Result<()> {
 fn run(rt: &HostRuntime) -> anyhow::Result<()> {
     shapes::all(rt)?;
     runs::all(rt)?;
+    largest::all(rt)?;
     Ok(())
 }

@@ -4,6 +4,7 @@ use fickle::Draws;
 use memory::Memory;
 use page::{Fault, PAGE_SIZE, Page};
 use pager::Pager;
+use server::PageServer;
 use std::fmt;
 use std::num::Saturating;
 
@@ -100,18 +101,28 @@ impl Run {
         Ok(Report { run: self, tally })
     }
 
+    fn drive_five<S: PageServer + Drop>(
+        self,
+        (a, b): (S, S),
+        (c, d, e): (S, S, S),
+    ) -> Result<Report, Fault> {
+        let rest = Pair(c, Pair(d, Pair(e, End)));
+        self.drive(Pair(a, Pair(b, rest)))
+    }
+
     fn over_five(self) -> Result<Report, Fault> {
         let mut a = [0u8; MEMORY];
         let mut b = [0u8; MEMORY];
         let mut c = [0u8; MEMORY];
         let mut d = [0u8; MEMORY];
         let mut e = [0u8; MEMORY];
-        let second = Memory::new(&mut b, self.era);
-        let rest = Pair(
+        let first = (Memory::new(&mut a, 0), Memory::new(&mut b, self.era));
+        let rest = (
             Memory::new(&mut c, 0),
-            Pair(Memory::new(&mut d, 0), Pair(Memory::new(&mut e, 0), End)),
+            Memory::new(&mut d, 0),
+            Memory::new(&mut e, 0),
         );
-        self.drive(Pair(Memory::new(&mut a, 0), Pair(second, rest)))
+        self.drive_five(first, rest)
     }
 }
 
@@ -133,10 +144,13 @@ impl fmt::Display for Report {
             wrong,
             ..
         } = self.tally;
+        writeln!(
+            f,
+            "{shape}, server 1 at era {era}: {outs} pageouts, {frees} frees"
+        )?;
         write!(
             f,
-            "{shape}, server 1 at era {era}: {outs} pageouts, {frees} frees\n  \
-             pageins: {equal} as booked, {none} of pages not out, {wrong} wrong"
+            "  pageins: {equal} as booked, {none} of pages not out, {wrong} wrong"
         )
     }
 }

@@ -2,6 +2,7 @@ use bank::{Bank, End, Pair};
 use memory::Memory;
 use page::Fault;
 use pager::Pager;
+use server::PageServer;
 use std::fmt;
 
 // Sixteen kibibytes: 32 slots.
@@ -16,6 +17,12 @@ pub struct Shape {
 
 const SMALLEST: Shape = Shape {
     groups: 3,
+    spares: 2,
+};
+
+// The most groups, and the fewest of them spare.
+pub const LARGEST: Shape = Shape {
+    groups: 32,
     spares: 2,
 };
 
@@ -66,6 +73,7 @@ pub fn all(rt: &HostRuntime) -> anyhow::Result<()> {
     rt.println(two())?;
     rt.println(three())?;
     five(rt)?;
+    six_to_nine(rt)?;
     println!(rt; "with a parity server of two slots:")?;
     rt.println(unequal())?;
     rt.println(ten())?;
@@ -128,6 +136,49 @@ fn five(rt: &HostRuntime) -> anyhow::Result<()> {
         (usize::MAX, 2),
     ] {
         rt.println(make_over_five_more(End, Shape { groups, spares }))?;
+    }
+    Ok(())
+}
+
+// Five servers and these more.
+fn six<S: PageServer + Drop>(f: S) -> Made {
+    make_over_five_more(Pair(f, End), LARGEST)
+}
+
+fn seven<S: PageServer + Drop>(f: S, g: S) -> Made {
+    make_over_five_more(Pair(f, Pair(g, End)), LARGEST)
+}
+
+fn eight<S: PageServer + Drop>(f: S, g: S, h: S) -> Made {
+    make_over_five_more(Pair(f, Pair(g, Pair(h, End))), LARGEST)
+}
+
+fn nine<S: PageServer + Drop>(f: S, g: S, h: S, i: S) -> Made {
+    make_over_five_more(Pair(f, Pair(g, Pair(h, Pair(i, End)))), LARGEST)
+}
+
+fn six_to_nine(rt: &HostRuntime) -> anyhow::Result<()> {
+    let mut f = [0u8; MEMORY];
+    let mut g = [0u8; MEMORY];
+    let mut h = [0u8; MEMORY];
+    let mut i = [0u8; MEMORY];
+    let made = [
+        six(Memory::new(&mut f, 0)),
+        seven(Memory::new(&mut f, 0), Memory::new(&mut g, 0)),
+        eight(
+            Memory::new(&mut f, 0),
+            Memory::new(&mut g, 0),
+            Memory::new(&mut h, 0),
+        ),
+        nine(
+            Memory::new(&mut f, 0),
+            Memory::new(&mut g, 0),
+            Memory::new(&mut h, 0),
+            Memory::new(&mut i, 0),
+        ),
+    ];
+    for one in made {
+        rt.println(one)?;
     }
     Ok(())
 }

@@ -3,8 +3,6 @@ use Rattle.std.proofs.Common.{◌≡◌, ℕ, suc, ◌+◌, ◌-◌, ◌<◌, �
 use Rattle.std.specs.List.{range_with_len}
 use Rattle.std.proofs.lemmas.List.Sums.{sum_by-cons}
 use Rattle.std.proofs.lemmas.Bool.{cases_eq}
-use Rattle.page.specs.Pages.{xor_page}
-use Rattle.page.specs.declared.pages.Page.{Page}
 use Rattle.parity_log.specs.declared.records.PageState.{PageState}
 use Rattle.parity_log.specs.declared.records.PageState.TheVariants.{NotOut, Out, Lost}
 use Rattle.parity_log.specs.declared.records.GroupState.TheVariants.{Free, Open, Closed}
@@ -51,7 +49,7 @@ clean_skip v g c i cleaning l e = record {
 }
 
 -- the page at position i gets an entry that is not in the cleaned group
-module _ (v : Tables) (g c i p : ℕ) (s : PageState) (n : ℕ) (y : Page) (cleaning : Cleaning v g c i) (l : i < v.shape.servers) (e : page_at v.pages c i ≡ Some p) (gone : (j : ℕ) → s ≡ Out c j → ⊥) where
+module _ (v : Tables) (g c i p : ℕ) (s : PageState) (n : ℕ) (cleaning : Cleaning v g c i) (l : i < v.shape.servers) (e : page_at v.pages c i ≡ Some p) (gone : (j : ℕ) → s ≡ Out c j → ⊥) where
   at_old : page_state v p ≡ Out c i
   at_old = at_out v.pages c i p e
 
@@ -62,11 +60,11 @@ module _ (v : Tables) (g c i p : ℕ) (s : PageState) (n : ℕ) (y : Page) (clea
       (λ old. (old.1, λ same. old.0 (cleaning.sound.once q p c i (old.1 ∙ ap (Out c) same) at_old)))
       (entry_cases NotOut v.pages p s (page_room v cleaning.sound p (page_below v cleaning.sound p c i at_old)) q (Out c j) f)
 
-  clean_entered : v.filled ≤ n → n ≤ v.filled + 1 → Puts v p s n → Cleaning (entered v p s n y) g c (i + 1)
+  clean_entered : v.filled ≤ n → n ≤ v.filled + 1 → Puts v p s n → Cleaning (entered v p s n) g c (i + 1)
   clean_entered more most puts =
       let room = one_ahead v g c i p cleaning l e in
       record {
-        sound = sound_entered v p s n y cleaning.sound (page_below v cleaning.sound p c i at_old) more (omega arith) puts;
+        sound = sound_entered v p s n cleaning.sound (page_below v cleaning.sound p c i at_old) more (omega arith) puts;
         open_now = cleaning.open_now;
         closed = cleaning.closed;
         moved = λ j m. none_at (set v.pages p s) c j (λ q f. let r = still_out q j f in ⊎_elim r.1 (λ ne. none_out v.pages c j q (cleaning.moved j (omega arith)) r.0) (cases_eq j i));
@@ -78,13 +76,13 @@ module _ (v : Tables) (g c i p : ℕ) (s : PageState) (n : ℕ) (y : Page) (clea
         used = λ h f ne. omega (arith, cleaning.used h f ne, live_kept v.pages p s v.shape.servers h (λ z. let was = ap group_of at_old in ne (cc)));
       }
 
-pub clean_place : (v : Tables) (g c i p : ℕ) (x : List ℕ) → Cleaning v g c i → i < v.shape.servers → page_at v.pages c i ≡ Some p → Cleaning (placed v g p x) g c (i + 1)
-clean_place v g c i p x cleaning l e =
-    clean_entered v g c i p (Out g v.filled) (v.filled + 1) (record { 0 = xor_page v.parity.0 x }) cleaning l e (λ j f. apart v g c i cleaning (cc)) (omega arith) (omega arith) (puts_next v g p cleaning.sound cleaning.open_now)
+pub clean_place : (v : Tables) (g c i p : ℕ) → Cleaning v g c i → i < v.shape.servers → page_at v.pages c i ≡ Some p → Cleaning (placed v g p) g c (i + 1)
+clean_place v g c i p cleaning l e =
+    clean_entered v g c i p (Out g v.filled) (v.filled + 1) cleaning l e (λ j f. apart v g c i cleaning (cc)) (omega arith) (omega arith) (puts_next v g p cleaning.sound cleaning.open_now)
 
 pub clean_lose : (v : Tables) (g c i p m : ℕ) → Cleaning v g c i → i < v.shape.servers → page_at v.pages c i ≡ Some p → Cleaning (with_page v p (Lost c m)) g c (i + 1)
 clean_lose v g c i p m cleaning l e =
-    clean_entered v g c i p (Lost c m) v.filled v.parity cleaning l e (λ j f. cc) (omega arith) (omega arith) (puts_nowhere v p (Lost c m) v.filled (λ h j f. cc))
+    clean_entered v g c i p (Lost c m) v.filled cleaning l e (λ j f. cc) (omega arith) (omega arith) (puts_nowhere v p (Lost c m) v.filled (λ h j f. cc))
 
 pub clean_end : (v : Tables) (g c : ℕ) → Cleaning v g c v.shape.servers → Settled (with_state v c Free) × (state_of (with_state v c Free) g ≡ Open)
 clean_end v g c cleaning =

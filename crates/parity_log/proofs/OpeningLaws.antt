@@ -10,7 +10,9 @@ use Rattle.parity_log.specs.declared.records.GroupState.TheVariants.{Free, Open,
 use Rattle.parity_log.specs.declared.records.Tables.{Tables}
 use Rattle.parity_log.specs.Tables.{within, initial, state_of, is_free, page_at, live_count, live}
 use Rattle.parity_log.specs.Choices.{open_group, start, round, first_in, next_free, free_count, fewest_live}
-use Rattle.parity_log.specs.Order.{Sound, Settled, Cleaning}
+use Rattle.page.specs.Pages.{zeros}
+use Rattle.parity_log.specs.LogState.{LogState, log_of}
+use Rattle.parity_log.specs.Order.{Sound, Settled, SettledLog, Cleaning}
 use Rattle.parity_log.specs.Paging.{opened}
 use Rattle.parity_log.specs.Pigeonhole.{AllButOne}
 use Rattle.parity_log.proofs.Bounds.{shape_bounds}
@@ -24,7 +26,7 @@ all_free : (s : Shape) → within s ≡ true → 1 ≤ free_count (initial s)
 unfolding free_count
 all_free s h = let b = shape_bounds s h in count_one (λ g. is_free (state_of (initial s) g)) s.groups 0 (omega arith) refl
 
-pub initial_settled : (s : Shape) → within s ≡ true → Settled (initial s)
+initial_settled : (s : Shape) → within s ≡ true → Settled (initial s)
 initial_settled s h =
     let b = shape_bounds s h in
     record {
@@ -41,10 +43,17 @@ initial_settled s h =
         filled = omega arith;
       };
       room = omega arith;
-      none_open = λ _. (refl, refl);
+      none_open = λ _. refl;
       spare = all_free s h;
       used = λ g e. let a = alike Free 32 g in absurd (cc);
     }
+
+-- the log of a pager just made
+abbrev pub initial_log : Shape → LogState
+initial_log s = log_of (initial s) zeros
+
+pub initial_log_settled : (s : Shape) → within s ≡ true → SettledLog (initial_log s)
+initial_log_settled s h = record { tables = initial_settled s h; cleared = λ _. refl }
 
 -- the first that passes does pass, and has what all have
 first_passes : (test : ℕ → Bool) (P : ℕ → Type 0) (xs : List ℕ) (x : ℕ) → All P xs → first_in test xs ≡ Some x → P x × (test x ≡ true)
@@ -75,7 +84,7 @@ module _ (v : Tables) (g : ℕ) (settled : Settled v) (none : open_group v ≡ N
   sound_opened : Sound (opened v g)
   sound_opened =
       let sound = settled.sound in
-      sound_restated v g Open (Some g) v.filled v.parity sound below (record {
+      sound_restated v g Open (Some g) v.filled sound below (record {
         own = λ p i e. absurd (omega (arith, rw was_free at (sound.placed p g i e).1));
         others = λ h _. omega arith;
         own_open = λ _. refl;
@@ -110,7 +119,7 @@ open_next v g settled none next many =
         sound = sound;
         room = settled.room;
         none_open = λ n. absurd (not_none (opened v g) sound g now n);
-        spare = omega (arith, free_but_one v g Open (Some g) v.filled v.parity);
+        spare = omega (arith, free_but_one v g Open (Some g) v.filled);
         used = used_opened v g settled none next;
       },
       now,
@@ -129,7 +138,7 @@ open_last v g settled none next few =
         open_now = open_now v g settled none next;
         closed = entry_other Free v.states g Open c (λ e. let f = ap (state_of v) e ∙ free in cc) ∙ shut;
         moved = λ j l. absurd (omega arith);
-        room = rw (live_from v c) (omega (arith, (settled.none_open none).0, hole.4, hole.5));
+        room = rw (live_from v c) (omega (arith, settled.none_open none, hole.4, hole.5));
         used = λ h e _. used_opened v g settled none next h e;
       },
     )

@@ -1,7 +1,6 @@
 -- What sound tables say, and that they stay sound when one entry changes.
 use Rattle.std.proofs.Common.{◌≡◌, ℕ, ◌+◌, ◌<◌, ◌≤◌, true, cond, ◌⊎◌, length, get_or, set, Some, None, Option, sym, refl, ap, ◌∙◌, subst, inl, inr, ⊎_elim, arith, length-set}
 use Rattle.std.proofs.lemmas.Bool.{cond_both, cases_eq, cases_lt, false≢true}
-use Rattle.page.specs.declared.pages.Page.{Page}
 use Rattle.parity_log.specs.declared.records.PageState.{PageState}
 use Rattle.parity_log.specs.declared.records.PageState.TheVariants.{NotOut, Out}
 use Rattle.parity_log.specs.declared.records.GroupState.{GroupState}
@@ -86,11 +85,11 @@ pub puts_nowhere : (v : Tables) (p : ℕ) (s : PageState) (n : ℕ) → ((g i : 
 puts_nowhere v p s n h = record { in_filled = λ g i e. absurd (h g i e); alone = λ q g i e f. absurd (h g i e) }
 
 -- the tables with another entry for one page, and so many positions of the open group filled
-abbrev pub entered : Tables → ℕ → PageState → ℕ → Page → Tables
-entered v p s n y = record { shape = v.shape; pages = set v.pages p s; states = v.states; last = v.last; filled = n; parity = y }
+abbrev pub entered : Tables → ℕ → PageState → ℕ → Tables
+entered v p s n = record { shape = v.shape; pages = set v.pages p s; states = v.states; last = v.last; filled = n }
 
-pub sound_entered : (v : Tables) (p : ℕ) (s : PageState) (n : ℕ) (y : Page) → Sound v → p < capacity v.shape → v.filled ≤ n → n ≤ v.shape.servers → Puts v p s n → Sound (entered v p s n y)
-sound_entered v p s n y sound l more most puts =
+pub sound_entered : (v : Tables) (p : ℕ) (s : PageState) (n : ℕ) → Sound v → p < capacity v.shape → v.filled ≤ n → n ≤ v.shape.servers → Puts v p s n → Sound (entered v p s n)
+sound_entered v p s n sound l more most puts =
     let cases = λ (q g i : ℕ). entry_cases NotOut v.pages p s (page_room v sound p l) q (Out g i) in
     record {
       shape = sound.shape;
@@ -110,8 +109,8 @@ sound_entered v p s n y sound l more most puts =
     }
 
 -- the tables with another state for one group, which may become the one opened last
-abbrev pub restated : Tables → ℕ → GroupState → Option ℕ → ℕ → Page → Tables
-restated v g s o n y = record { shape = v.shape; pages = v.pages; states = set v.states g s; last = o; filled = n; parity = y }
+abbrev pub restated : Tables → ℕ → GroupState → Option ℕ → ℕ → Tables
+restated v g s o n = record { shape = v.shape; pages = v.pages; states = set v.states g s; last = o; filled = n }
 
 -- when a group may become s
 pub record Restates (v : Tables) (g : ℕ) (s : GroupState) (o : Option ℕ) (n : ℕ) : Type 0 where
@@ -122,8 +121,8 @@ pub record Restates (v : Tables) (g : ℕ) (s : GroupState) (o : Option ℕ) (n 
   pub last : (h : ℕ) → o ≡ Some h → h < v.shape.groups
   pub filled : n ≤ v.shape.servers
 
-pub sound_restated : (v : Tables) (g : ℕ) (s : GroupState) (o : Option ℕ) (n : ℕ) (y : Page) → Sound v → g < v.shape.groups → Restates v g s o n → Sound (restated v g s o n y)
-sound_restated v g s o n y sound l restates =
+pub sound_restated : (v : Tables) (g : ℕ) (s : GroupState) (o : Option ℕ) (n : ℕ) → Sound v → g < v.shape.groups → Restates v g s o n → Sound (restated v g s o n)
+sound_restated v g s o n sound l restates =
     let room = state_room v sound g l in
     record {
       shape = sound.shape;
@@ -147,7 +146,7 @@ sound_restated v g s o n y sound l restates =
 
 -- a closed group without a live position becomes free
 pub sound_freed : (v : Tables) (g : ℕ) → Sound v → state_of v g ≡ Closed → ((p i : ℕ) → page_state v p ≡ Out g i → ⊥) → Sound (with_state v g Free)
-sound_freed v g sound e none = sound_restated v g Free v.last v.filled v.parity sound (closed_below v sound g e) (record {
+sound_freed v g sound e none = sound_restated v g Free v.last v.filled sound (closed_below v sound g e) (record {
   own = λ p i f. absurd (none p i f);
   others = λ h _. omega arith;
   own_open = λ z. absurd (cc);
@@ -158,25 +157,25 @@ sound_freed v g sound e none = sound_restated v g Free v.last v.filled v.parity 
 
 -- the free groups, counted
 module _ (v : Tables) where
-  pub free_entered : (p : ℕ) (s : PageState) (n : ℕ) (y : Page) → free_count (entered v p s n y) ≡ free_count v
+  pub free_entered : (p : ℕ) (s : PageState) (n : ℕ) → free_count (entered v p s n) ≡ free_count v
   unfolding free_count
-  free_entered p s n y = refl
+  free_entered p s n = refl
 
   pub free_two : (g h : ℕ) → g < v.shape.groups → h < v.shape.groups → (h ≡ g → ⊥) → state_of v g ≡ Free → state_of v h ≡ Free → 2 ≤ free_count v
   unfolding free_count
   free_two g h l m ne e f = count_two (λ k. is_free (state_of v k)) v.shape.groups g h l m ne (ap is_free e) (ap is_free f)
 
-  module _ (g : ℕ) (s : GroupState) (o : Option ℕ) (n : ℕ) (y : Page) where
-    still_free : (k : ℕ) → (k ≡ g → ⊥) → is_free (state_of v k) ≡ true → is_free (state_of (restated v g s o n y) k) ≡ true
+  module _ (g : ℕ) (s : GroupState) (o : Option ℕ) (n : ℕ) where
+    still_free : (k : ℕ) → (k ≡ g → ⊥) → is_free (state_of v k) ≡ true → is_free (state_of (restated v g s o n) k) ≡ true
     still_free k ne t = ap is_free (entry_other Free v.states g s k ne) ∙ t
 
-    pub free_but_one : free_count v ≤ free_count (restated v g s o n y) + 1
+    pub free_but_one : free_count v ≤ free_count (restated v g s o n) + 1
     unfolding free_count
-    free_but_one = count_but_one (λ k. is_free (state_of v k)) (λ k. is_free (state_of (restated v g s o n y) k)) g v.shape.groups still_free
+    free_but_one = count_but_one (λ k. is_free (state_of v k)) (λ k. is_free (state_of (restated v g s o n) k)) g v.shape.groups still_free
 
-    pub free_kept : (state_of v g ≡ Free → ⊥) → free_count v ≤ free_count (restated v g s o n y)
+    pub free_kept : (state_of v g ≡ Free → ⊥) → free_count v ≤ free_count (restated v g s o n)
     unfolding free_count
-    free_kept was = count_kept (λ k. is_free (state_of v k)) (λ k. is_free (state_of (restated v g s o n y) k)) 0 v.shape.groups
+    free_kept was = count_kept (λ k. is_free (state_of v k)) (λ k. is_free (state_of (restated v g s o n) k)) 0 v.shape.groups
         (λ k _ _ t. still_free k (λ e. was (ap (state_of v) (sym e) ∙ free_from (state_of v k) t)) t)
 
   pub free_freed : (g : ℕ) → Sound v → g < v.shape.groups → 1 ≤ free_count (with_state v g Free)

@@ -7,7 +7,8 @@ use Rattle.parity_log.specs.declared.records.PageState.TheVariants.{NotOut, Out}
 use Rattle.parity_log.specs.declared.records.GroupState.{GroupState}
 use Rattle.parity_log.specs.declared.records.GroupState.TheVariants.{Free, Open, Closed}
 use Rattle.parity_log.specs.declared.records.Tables.{Tables}
-use Rattle.parity_log.specs.Tables.{within, capacity, unmade, state_of, page_state, page_at, live}
+use Rattle.parity_log.specs.Tables.{within, capacity, state_of, page_state, page_at, live}
+use Rattle.parity_log.specs.LogState.{LogState, unmade_log}
 use Rattle.parity_log.specs.Choices.{open_group, free_count}
 
 -- how many positions of a group are filled
@@ -49,9 +50,14 @@ UsedBut v But = (g : ℕ) → state_of v g ≡ Closed → (But g → ⊥) → 1 
 pub record Settled (v : Tables) : Type 0 where
   pub sound : Sound v
   pub room : v.filled < v.shape.servers
-  pub none_open : open_group v ≡ None → (v.filled ≡ 0) × (v.parity.0 ≡ zeros)
+  pub none_open : open_group v ≡ None → v.filled ≡ 0
   pub spare : 1 ≤ free_count v
   pub used : (g : ℕ) → state_of v g ≡ Closed → 1 ≤ live v g
+
+-- the same of a log: while no group is open its running parity is zero
+pub record SettledLog (l : LogState) : Type 0 where
+  pub tables : Settled l.tables
+  pub cleared : open_group l.tables ≡ None → l.running ≡ zeros
 
 -- within a call, once a page has left its group: that group may be unused
 pub record Leaving (v : Tables) (left : Option ℕ) : Type 0 where
@@ -70,6 +76,6 @@ pub record Cleaning (v : Tables) (g c i : ℕ) : Type 0 where
   pub used : UsedBut v (λ h. h ≡ c)
 
 -- of a pager that was made, and of one that was not
-pub record Order (v : Tables) : Type 0 where
-  pub made : within v.shape ≡ true → Settled v
-  pub not_made : within v.shape ≡ false → v ≡ unmade
+pub record Order (l : LogState) : Type 0 where
+  pub made : within l.tables.shape ≡ true → SettledLog l
+  pub not_made : within l.tables.shape ≡ false → l ≡ unmade_log

@@ -7,6 +7,7 @@ use Rattle.server.specs.Calls.{to_get}
 use Rattle.parity_log.specs.declared.records.PageState.{PageState}
 use Rattle.parity_log.specs.declared.records.PageState.TheVariants.{NotOut, Out, Lost}
 use Rattle.parity_log.specs.declared.records.Tables.{Tables}
+use Rattle.parity_log.specs.LogState.{LogState}
 use Rattle.parity_log.specs.Tables.{state_of, page_state, is_open, others, weight}
 use Rattle.parity_log.specs.Faults.{on_page, lost_page, objection}
 use Rattle.parity_log.specs.Rule.{Rule, give, ask, note, ◌>>=◌}
@@ -42,12 +43,12 @@ asking s g [] sum missing = give (record { sum = sum; missing = missing })
 asking s g (k ∷ ks) sum missing = ask k (to_get g page_size) (λ a. asking s g ks (added sum a) (refusers missing (weight s k) a))
 
 -- the running parity of an open group is a member that always delivers, and nobody is asked for it
-abbrev pub kept : Tables → ℕ → List ℕ
-kept v g = cond (is_open (state_of v g)) v.parity.0 zeros
+abbrev pub kept : LogState → ℕ → List ℕ
+kept l g = cond (is_open (state_of l.tables g)) l.running zeros
 
 -- every member of the group but k
-unfoldable pub gather : Tables → ℕ → ℕ → LogRule Gathered
-gather v g k = asking v.shape.servers g (others v g k) (kept v g) 0
+unfoldable pub gather : LogState → ℕ → ℕ → LogRule Gathered
+gather l g k = asking l.tables.shape.servers g (others l.tables g k) (kept l g) 0
 
 -- what a reading of a position came to: the page, or the set of the members that refused
 pub data Reading : Type 0 where
@@ -58,27 +59,27 @@ pub data Reading : Type 0 where
 abbrev pub restored : Tables → ℕ → Gathered → Reading
 restored v i r = cond (r.missing == 0) (found r.sum) (missed (r.missing + weight v.shape.servers i))
 
-abbrev pub or_restored : Tables → ℕ → ℕ → Result (List ℕ) Fault → LogRule Reading
-or_restored v g i (Ok x) = give (found x)
-or_restored v g i (Err f) = gather v g i >>= λ r. give (restored v i r)
+abbrev pub or_restored : LogState → ℕ → ℕ → Result (List ℕ) Fault → LogRule Reading
+or_restored l g i (Ok x) = give (found x)
+or_restored l g i (Err f) = gather l g i >>= λ r. give (restored l.tables i r)
 
-unfoldable pub read : Tables → ℕ → ℕ → LogRule Reading
-read v g i = ask i (to_get g page_size) (λ a. or_restored v g i a)
+unfoldable pub read : LogState → ℕ → ℕ → LogRule Reading
+read l g i = ask i (to_get g page_size) (λ a. or_restored l g i a)
 
 -- Pagein.
 abbrev pub delivered : Tables → ℕ → ℕ → ℕ → Reading → LogRule (Result (List ℕ) Fault)
 delivered v p g i (found x) = give (Ok x)
 delivered v p g i (missed s) = note (record { page = p; group = g; position = i; set = s; tables = v }) (give (Err (lost_page p g s)))
 
-unfoldable pub pagein_from : Tables → ℕ → PageState → LogRule (Result (List ℕ) Fault)
-pagein_from v p NotOut = give (Err (on_page None p))
-pagein_from v p (Out g i) = read v g i >>= λ r. delivered v p g i r
-pagein_from v p (Lost g s) = give (Err (lost_page p g s))
+unfoldable pub pagein_from : LogState → ℕ → PageState → LogRule (Result (List ℕ) Fault)
+pagein_from l p NotOut = give (Err (on_page None p))
+pagein_from l p (Out g i) = read l g i >>= λ r. delivered l.tables p g i r
+pagein_from l p (Lost g s) = give (Err (lost_page p g s))
 
-abbrev pub pagein_unless : Option Fault → Tables → ℕ → LogRule (Result (List ℕ) Fault)
-pagein_unless (Some f) v p = give (Err f)
-pagein_unless Nowhere v p = pagein_from v p (page_state v p)
+abbrev pub pagein_unless : Option Fault → LogState → ℕ → LogRule (Result (List ℕ) Fault)
+pagein_unless (Some f) l p = give (Err f)
+pagein_unless Nowhere l p = pagein_from l p (page_state l.tables p)
 
 -- the page p into a buffer of n bytes
-unfoldable pub pagein : Tables → ℕ → ℕ → LogRule (Result (List ℕ) Fault)
-pagein v p n = pagein_unless (objection v p n) v p
+unfoldable pub pagein : LogState → ℕ → ℕ → LogRule (Result (List ℕ) Fault)
+pagein l p n = pagein_unless (objection l.tables p n) l p

@@ -8,6 +8,7 @@ use Rattle.page.specs.Refusals.{fault_of}
 use Rattle.server.specs.Calls.{to_put, to_get}
 use Rattle.parity_log.specs.declared.records.Shape.{Shape}
 use Rattle.parity_log.specs.declared.records.Tables.{Tables}
+use Rattle.parity_log.specs.LogState.{LogState}
 use Rattle.parity_log.specs.declared.records.Progress.{Progress}
 use Rattle.parity_log.specs.declared.records.Counts.{Counts}
 use Rattle.parity_log.specs.declared.records.Visit.{Visit}
@@ -27,12 +28,14 @@ begin v k = cond (within v.shape) (cond (nat_le k v.shape.servers) (Ok (begun v.
 unfoldable pub put_back : ℕ → ℕ → Gathered → LogRule Visit
 put_back k g r = cond (r.missing == 0) (ask k (to_put g r.sum) (λ a. give (cond (is_ok a) Rebuilt Failed))) (give Failed)
 
-unfoldable pub mend : Tables → ℕ → ℕ → Result (List ℕ) Fault → LogRule Visit
-mend v k g (Ok x) = give Intact
-mend v k g (Err f) = gather v g k >>= λ r. put_back k g r
+unfoldable pub mend : LogState → ℕ → ℕ → Result (List ℕ) Fault → LogRule Visit
+mend l k g (Ok x) = give Intact
+mend l k g (Err f) = gather l g k >>= λ r. put_back k g r
 
-unfoldable pub visit : Tables → ℕ → ℕ → LogRule Visit
-visit v k g = cond (nat_lt k (member_count_of (state_of v g) v.shape.servers v.filled)) (ask k (to_get g page_size) (λ a. mend v k g a)) (give Intact)
+unfoldable pub visit : LogState → ℕ → ℕ → LogRule Visit
+visit l k g =
+    let v = l.tables in
+    cond (nat_lt k (member_count_of (state_of v g) v.shape.servers v.filled)) (ask k (to_get g page_size) (λ a. mend l k g a)) (give Intact)
 
 -- Step: one group further, with so many more rebuilt and failed.
 abbrev pub further : Progress → ℕ → ℕ → Progress
@@ -56,12 +59,12 @@ abbrev pub misfit : Tables → Progress → Option Fault
 misfit v j = cond (within v.shape) (cond (j.servers == v.shape.servers && j.groups == v.shape.groups) Nowhere (Some (fault_of Log Range))) (Some (fault_of Log BadShape))
 
 -- past the last group a step is done and changes nothing
-abbrev pub step_unless : Option Fault → Tables → Progress → LogRule Stepped
-step_unless (Some f) v j = give (stepped (Err f) j)
-step_unless Nowhere v j = cond (nat_lt j.group j.groups) (visit v j.server j.group >>= λ r. give (stepped (Ok tt) (counted j r))) (give (stepped (Ok tt) j))
+abbrev pub step_unless : Option Fault → LogState → Progress → LogRule Stepped
+step_unless (Some f) l j = give (stepped (Err f) j)
+step_unless Nowhere l j = cond (nat_lt j.group j.groups) (visit l j.server j.group >>= λ r. give (stepped (Ok tt) (counted j r))) (give (stepped (Ok tt) j))
 
-unfoldable pub step : Tables → Progress → LogRule Stepped
-step v j = step_unless (misfit v j) v j
+unfoldable pub step : LogState → Progress → LogRule Stepped
+step l j = step_unless (misfit l.tables j) l j
 
 -- Close.
 abbrev pub counts : Progress → Counts

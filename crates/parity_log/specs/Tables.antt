@@ -1,7 +1,6 @@
 -- The log's shape and tables, and what they say of groups, members and live positions.
 use Rattle.std.specs.Prelude.{ℕ, ◌+◌, ◌-◌, ◌*◌, ◌^◌, Bool, true, false, cond, not, ◌&&◌, leb, List, [], ◌∷◌, replicate, is_some, Some, None, count_by, filter, Option, ◌==◌, nat_le, nat_lt, slice_index_or, slice_set}
 use Rattle.std.specs.List.{range_with_len, list_all}
-use Rattle.page.specs.Pages.{zeros}
 use Rattle.parity_log.specs.declared.records.Shape.{Shape}
 use Rattle.parity_log.specs.declared.records.PageState.{PageState}
 use Rattle.parity_log.specs.declared.records.PageState.TheVariants.{NotOut, Out, Lost}
@@ -26,7 +25,7 @@ capacity s = (s.groups - s.spares) * s.servers
 
 -- the tables of a pager just made
 abbrev pub initial : Shape → Tables
-initial s = record { shape = s; pages = replicate 240 NotOut; states = replicate 32 Free; last = None; filled = 0; parity = record { 0 = zeros } }
+initial s = record { shape = s; pages = replicate 240 NotOut; states = replicate 32 Free; last = None; filled = 0 }
 
 -- a pager that was not made has a shape that no pager has
 abbrev pub unmade : Tables
@@ -40,10 +39,10 @@ page_state v p = slice_index_or v.pages p NotOut
 
 -- the same tables but for one entry
 abbrev pub with_page : Tables → ℕ → PageState → Tables
-with_page v p s = record { shape = v.shape; pages = slice_set v.pages p s; states = v.states; last = v.last; filled = v.filled; parity = v.parity }
+with_page v p s = record { shape = v.shape; pages = slice_set v.pages p s; states = v.states; last = v.last; filled = v.filled }
 
 abbrev pub with_state : Tables → ℕ → GroupState → Tables
-with_state v g s = record { shape = v.shape; pages = v.pages; states = slice_set v.states g s; last = v.last; filled = v.filled; parity = v.parity }
+with_state v g s = record { shape = v.shape; pages = v.pages; states = slice_set v.states g s; last = v.last; filled = v.filled }
 
 abbrev pub is_free : GroupState → Bool
 is_free Free = true

@@ -6,7 +6,6 @@ ghost use Rattle.parity_log.specs.declared.records.GroupState.TheVariants.{Free}
 
 use crate::owners::Owners;
 use crate::records::{GroupState, MOST_GROUPS, MOST_PAGES, PageState, Shape, Tables};
-use page::{PAGE_SIZE, Page};
 
 // The tables, and beside them who is out at each position, which the tables say too.
 #[derive(Clone, Copy)]
@@ -27,7 +26,6 @@ impl Ledger {
             states: [GroupState::Free; MOST_GROUPS],
             last: None,
             filled: 0,
-            parity: Page::zero(),
         };
         Ledger {
             tables,
@@ -95,22 +93,20 @@ impl Ledger {
         self.tables.last = Some(group);
     }
 
-    // The open group is closed, and the running parity cleared.
+    // The open group is closed.
     pub fn shut(&mut self, group: usize)
         requires { group < 32 }
         ensures { self.new.tables ≡ shut self.old.tables group }
     {
         self.tables.states[group] = GroupState::Closed;
         self.tables.filled = 0;
-        self.tables.parity = Page::zero();
     }
 
-    // One position more is filled, and its page added to the running parity.
-    pub fn add(&mut self, bytes: &[u8; PAGE_SIZE])
+    // One position more of the open group is filled.
+    pub fn fill_next(&mut self)
         requires { self.old.tables.filled < 8 }
-        ensures { self.new.tables ≡ grown self.old.tables bytes.now }
+        ensures { self.new.tables ≡ grown self.old.tables }
     {
         self.tables.filled += 1;
-        self.tables.parity.add(bytes);
     }
 }

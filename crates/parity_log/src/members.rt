@@ -1,10 +1,8 @@
 ghost use Rattle.std.specs.Prelude.{◌≡◌, ◌<◌};
 ghost use Rattle.parity_log.specs.Order.{Limited};
-ghost use Rattle.parity_log.specs.Reading.{kept};
 ghost use Rattle.parity_log.specs.Tables.{group_of, member_count_of, state_of};
 
 use crate::records::{GroupState, PageState, Tables};
-use page::Page;
 
 impl PageState {
     // The group that a page is out at.
@@ -29,17 +27,6 @@ impl Tables {
             GroupState::Free => 0,
             GroupState::Open => self.filled,
             GroupState::Closed => self.shape.servers + 1,
-        }
-    }
-
-    // The member that is asked of nobody: the running parity of an open group.
-    pub fn kept_page(&self, group: usize) -> Page
-        requires { group < 32 }
-        ensures { result.0 ≡ kept self.now group }
-    {
-        match self.states[group] {
-            GroupState::Open => self.parity,
-            GroupState::Free | GroupState::Closed => Page::zero(),
         }
     }
 }

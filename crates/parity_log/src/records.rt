@@ -1,5 +1,3 @@
-use page::Page;
-
 pub const MOST_SERVERS: usize = 8;
 
 pub const MOST_GROUPS: usize = 32;
@@ -30,7 +28,7 @@ pub enum GroupState {
 }
 
 // The log's tables, at the size of the largest shape.
-// `last` is the group opened last, which is the open one if any is; `filled` of its positions are filled, and `parity` is their running parity.
+// They hold no page's bytes. `last` is the group opened last, which is the open one if any is; `filled` of its positions are filled.
 #[derive(Clone, Copy)]
 pub struct Tables {
     pub shape: Shape,
@@ -38,7 +36,6 @@ pub struct Tables {
     pub states: [GroupState; MOST_GROUPS],
     pub last: Option<usize>,
     pub filled: usize,
-    pub parity: Page,
 }
 
 // How far a rebuild of a server has come: the group it is at, what it counted, and the numbers of data servers and groups of the pager that it was begun on.

@@ -1,5 +1,12 @@
+pub mod AlikeLaws
+pub mod AlongLaws
+pub mod CutLaws
+pub mod InTurnLaws
+pub mod LineLaws
 pub mod ListingLaws
 pub mod ModelLaws
 pub mod ReplayingLaws
 pub mod ScriptLaws
+pub mod TranscriptLaws
 pub mod WorkedFacts
+pub mod WrittenLaws

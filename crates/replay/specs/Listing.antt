@@ -1,16 +1,17 @@
 -- What a replay writes: the bytes of each line, and how they are laid into a buffer that may be too short.
-use Rattle.std.specs.Prelude.{ℕ, ◌+◌, ◌≤◌, Bool, not, List, ◌++◌, map, length, slice_index, take, drop, Option, Some, None, Result, Ok, Err, ℤ, pos, negsuc, if◌then◌else◌, ◌==◌, nat_le, codes, bit_and, decimal}
+use Rattle.std.specs.Prelude.{◌≡◌, ℕ, ◌+◌, ◌≤◌, Bool, not, List, ◌++◌, map, length, slice_index, take, drop, Option, Some, None, Result, Ok, Err, ℤ, pos, negsuc, if◌then◌else◌, ◌==◌, nat_le, codes, bit_and, decimal, min}
 use Rattle.std.specs.List.{filter, join_with_byte, range_with_len}
-use Rattle.page.specs.Refusals.{named, on_line}
+use Rattle.page.specs.Refusals.{fault_of, named, on_line}
 use Rattle.page.specs.declared.faults.Fault.{Fault}
 use Rattle.page.specs.declared.faults.Refusal.{Refusal}
-use Rattle.page.specs.declared.faults.Refusal.TheVariants.{Lost}
+use Rattle.page.specs.declared.faults.Layer.TheVariants.{Replay}
+use Rattle.page.specs.declared.faults.Refusal.TheVariants.{Full, Lost}
 use Rattle.parity_log.specs.Tables.{weight}
 use Rattle.replay.specs.Script.{number_of, word_of}
 use Rattle.replay.specs.declared.listing.Detail.{Detail}
 use Rattle.replay.specs.declared.listing.Detail.TheVariants.{Nothing, Pages, Byte, Groups}
 use Rattle.replay.specs.declared.listing.Entry.{Entry}
-use Rattle.replay.specs.declared.listing.Full.{Full}
+use Rattle.replay.specs.declared.listing.Halt.{Halt}
 use Rattle.replay.specs.declared.script.Call.{Call}
 
 -- a line that can't be read
@@ -82,16 +83,30 @@ fits listing count line = nat_le (count + length line) (length listing)
 abbrev pub written : List ℕ → ℕ → List ℕ → List ℕ
 written listing count line = if fits listing count line then take count listing ++ line ++ drop (count + length line) listing else listing
 
--- how many bytes are written after a line
-abbrev pub count_after : List ℕ → ℕ → List ℕ → Result ℕ Full
-count_after listing count line = if fits listing count line then Ok (count + length line) else Err (record { count = count })
+-- why a replay ends before its script does, and how many bytes are written by then
+abbrev pub halt_at : ℕ → Fault → Halt
+halt_at count fault = record { count = count; fault = fault }
 
--- a replay's answer: the bytes written, and below 0 where the next line did not fit
-abbrev pub answer_of : Result ℕ Full → ℤ
+-- a line of the listing does not fit
+abbrev pub full : Fault
+full = fault_of Replay Full
+
+-- how many bytes are written after a line, which is of this line of the script
+abbrev pub count_after : List ℕ → ℕ → ℕ → List ℕ → Result ℕ Halt
+count_after listing count number line =
+    if fits listing count line then Ok (count + length line) else Err (halt_at count (on_line number full))
+
+-- an outcome whose count is at most this
+abbrev pub outcome_within : ℕ → Result ℕ Halt → Result ℕ Halt
+outcome_within most (Ok count) = Ok (min count most)
+outcome_within most (Err halt) = Err (halt_at (min halt.count most) halt.fault)
+
+-- a replay's outcome as one number: the bytes written, and below 0 where the next line did not fit
+abbrev pub answer_of : Result ℕ Halt → ℤ
 answer_of (Ok count) = pos count
-answer_of (Err full) = negsuc full.count
+answer_of (Err halt) = negsuc halt.count
 
--- no more bytes are counted than a buffer has
-abbrev pub CountsWithin : Result ℕ Full → ℕ → Type 0
-CountsWithin (Ok count) most = count ≤ most
-CountsWithin (Err full) most = full.count ≤ most
+-- a replay ends with no more bytes than a buffer has, and halts only where it is full, on a known line
+abbrev pub EndsWithin : ℕ → Result ℕ Halt → Type 0
+EndsWithin most (Ok count) = count ≤ most
+EndsWithin most (Err halt) = (halt.count ≤ most) × (line : ℕ) × (halt.fault ≡ on_line line full)

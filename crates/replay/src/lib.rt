@@ -8,7 +8,7 @@ mod script;
 
 ghost use Rattle.replay.specs.Worked.{NumbersAreRead, NumbersHaveOneSpelling, WorkedCalls, WorkedLines, WorkedListing, WorkedUnread};
 
-pub use listing::{Detail, Entry, Full, outcome_of, write_entry, write_header, written_part};
+pub use listing::{Detail, Entry, Halt, answer_of, write_entry, write_header};
 pub use parts::Parts;
 pub use replaying::{Runner, replay};
 pub use script::{Call, call_lines};

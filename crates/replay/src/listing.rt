@@ -1,10 +1,10 @@
-ghost use Rattle.replay.specs.Listing.{answer_of, answer_text, answer_word, called, count_after, detail_text, header, CountsWithin, line_of, missing_text, refusal_text, run_entry, unread_entry, written};
-ghost use Rattle.std.specs.Prelude.{◌≡◌, ◌+◌, ◌^◌, ◌<◌, ◌≤◌, ◌++◌, codes, decimal, take};
+ghost use Rattle.replay.specs.Listing.{answer_of, answer_text, answer_word, called, count_after, detail_text, header, line_of, missing_text, outcome_within, refusal_text, run_entry, unread_entry, written};
+ghost use Rattle.std.specs.Prelude.{◌≡◌};
 
 use crate::script::Call;
 use arrayvec::ArrayString;
 use itoa::Buffer;
-use page::{Fault, Refusal};
+use page::{Fault, Layer, Refusal};
 
 const HEADER: &[u8] = b"line,call,number,answer,detail\n";
 
@@ -31,10 +31,11 @@ pub struct Entry {
     pub answer: Result<Detail, Fault>,
 }
 
-// The next line did not fit behind these bytes.
+/// Why a replay ended before its script did, and how many bytes of the listing were written by then.
 #[derive(Clone, Copy, PartialEq, Eq, Debug)]
-pub struct Full {
+pub struct Halt {
     pub count: usize,
+    pub fault: Fault,
 }
 
 // A call's word and number, or two dashes where no call was read.
@@ -150,9 +151,9 @@ impl Entry {
     }
 }
 
-// Writes a line whole behind the bytes that are written, or nothing where it does not fit.
-fn write_line(listing: &mut [u8], count: usize, line: &[u8]) -> Result<usize, Full>
-    ensures answer { result ≡ count_after listing.old count line.now }
+// Writes a line, of this line of the script, whole behind the bytes that are written, or nothing where it does not fit: then the listing is full there.
+fn write_line(listing: &mut [u8], count: usize, number: usize, line: &[u8]) -> Result<usize, Halt>
+    ensures answer { result ≡ count_after listing.old count number line.now }
     ensures bytes { listing.new ≡ written listing.old count line.now }
 {
     match count.checked_add(line.len()) {
@@ -160,53 +161,36 @@ fn write_line(listing: &mut [u8], count: usize, line: &[u8]) -> Result<usize, Fu
             listing[count..end].copy_from_slice(line);
             Ok(end)
         }
-        _ => Err(Full { count }),
+        _ => Err(Halt {
+            count,
+            fault: Fault::new(Layer::Replay, Refusal::Full).on_line(number),
+        }),
     }
 }
 
-// Writes the first line, and answers how many bytes it has.
-pub fn write_header(listing: &mut [u8]) -> Result<usize, Full>
-    ensures answer { result ≡ count_after listing.old 0 header }
+// Writes the first line, which goes with the script's line 1, and answers how many bytes it has.
+pub fn write_header(listing: &mut [u8]) -> Result<usize, Halt>
+    ensures answer { result ≡ count_after listing.old 0 1 header }
     ensures bytes { listing.new ≡ written listing.old 0 header }
 {
-    write_line(listing, 0, HEADER)
+    write_line(listing, 0, 1, HEADER)
 }
 
 // Writes an entry's line behind the bytes that are written, and answers how many there are then.
-pub fn write_entry(listing: &mut [u8], count: usize, entry: &Entry) -> Result<usize, Full>
-    ensures answer { result ≡ count_after listing.old count (line_of entry.now) }
+pub fn write_entry(listing: &mut [u8], count: usize, entry: &Entry) -> Result<usize, Halt>
+    ensures answer { result ≡ count_after listing.old count entry.now.line (line_of entry.now) }
     ensures bytes { listing.new ≡ written listing.old count (line_of entry.now) }
 {
-    write_line(listing, count, entry.text().as_bytes())
+    write_line(listing, count, entry.line, entry.text().as_bytes())
 }
 
-// A replay's answer: how many bytes it wrote, as -1 - n where the line behind n bytes did not fit.
-pub fn answer_of(outcome: Result<usize, Full>) -> i64
-    requires { CountsWithin outcome 9223372036854775807 }
-    ensures { result ≡ answer_of outcome }
+/// A replay's outcome as one number: how many bytes it wrote, as -1 - n where it halted behind n bytes. No buffer has more
+/// than `i64::MAX` bytes, and a larger count is taken for that.
+pub fn answer_of(outcome: Result<usize, Halt>) -> i64
+    ensures { result ≡ answer_of (outcome_within 9223372036854775807 outcome) }
 {
     match outcome {
-        Ok(count) => count as i64,
-        Err(full) => -1 - full.count as i64,
+        Ok(count) => i64::try_from(count).unwrap_or(i64::MAX),
+        Err(halt) => -1 - i64::try_from(halt.count).unwrap_or(i64::MAX),
     }
-}
-
-// What a replay's answer says: how many bytes it wrote, or behind how many the next line did not fit.
-pub fn outcome_of(answer: i64) -> Result<usize, Full>
-    ensures { answer ≡ answer_of result }
-{
-    if answer >= 0 {
-        Ok(answer as usize)
-    } else {
-        Err(Full {
-            count: (-1 - answer) as usize,
-        })
-    }
-}
-
-// The first bytes of a listing, which are those that were written.
-pub fn written_part(listing: &[u8], count: usize) -> &[u8]
-    ensures { result.now ≡ take count listing.now }
-{
-    listing.get(..count).unwrap_or(listing)
 }

@@ -1,5 +1,6 @@
 //! What the five servers of a replay work over.
 use crate::outcome::Checksum;
+use replay::answer_of;
 use session::replay_over_five;
 use std::alloc::{AllocError, Global};
 use std::fmt;
@@ -48,7 +49,7 @@ impl Memories {
     }
 
     pub fn replay(&mut self, script: &[u8], listing: &mut [u8]) -> i64 {
-        replay_over_five(
+        let outcome = replay_over_five(
             script,
             &mut self.a,
             &mut self.b,
@@ -56,7 +57,8 @@ impl Memories {
             &mut self.d,
             &mut self.parity,
             listing,
-        )
+        );
+        answer_of(outcome)
     }
 
     // The checksum of all five, one after the other.

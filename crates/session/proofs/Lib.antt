@@ -1,6 +1,12 @@
+pub mod AlikeRows
+pub mod BookFacts
 pub mod CallLaws
+pub mod ListingFacts
 pub mod Models
+pub mod ReadFacts
 pub mod RebuildLaws
+pub mod RowSteps
 pub mod ShapeFacts
+pub mod Stores
 pub mod WholeLaws
 pub mod WorkedReplays

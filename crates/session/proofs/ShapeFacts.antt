@@ -8,7 +8,7 @@ use Rattle.replay.specs.declared.script.Call.TheVariants.{Out, In, Free, Make, F
 use Rattle.session.specs.Calls.{Model, run_model}
 use Rattle.session.specs.ShapeLaws.{ShapeLaws, is_make, refused}
 
-made_first : (m : Model) (call : Call) → within m.tables.shape ≡ false → is_make call ≡ false → run_model m call ≡ refused m
+made_first : (m : Model) (call : Call) → within m.log.tables.shape ≡ false → is_make call ≡ false → run_model m call ≡ refused m
 unfolding pageout pagein free
 made_first m (Out page value) v other = rw v refl
 made_first m (In page) v other = rw v refl
@@ -18,7 +18,7 @@ made_first m (Fall server) v other = rw v refl
 made_first m (Back server) v other = rw v refl
 made_first m (Rebuild server) v other = rw v refl
 
-made_once : (m : Model) (groups spares : ℕ) → within m.tables.shape ≡ true → run_model m (Make groups spares) ≡ refused m
+made_once : (m : Model) (groups spares : ℕ) → within m.log.tables.shape ≡ true → run_model m (Make groups spares) ≡ refused m
 made_once m groups spares v = rw v refl
 
 pub shape_laws : ShapeLaws

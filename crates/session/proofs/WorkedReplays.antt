@@ -10,7 +10,7 @@ use Rattle.session.specs.Worked.{WorkedMissing, WorkedOrder, WorkedReplays}
 
 pub worked_replays : WorkedReplays
 unfolding digits put_back mend visit step asking gather read pagein_from pagein page_at live_count next_free free_count fewest_live place free_on release release_old close_full move move_all clean open_next_rule with_open judged ending steps pageout free
-worked_replays = record { losing = refl; losing_listed = refl; none_run = refl; losing_left = refl; cleaning = refl; cleaning_listed = refl; cut = refl; cut_listed = refl }
+worked_replays = record { losing = refl; losing_listed = refl; none_run = refl; losing_left = refl; cleaning = refl; cleaning_listed = refl; cut = refl; cut_listed = refl; headless = refl; unnamed = refl; unnamed_cut = refl; unread = refl; unread_listed = refl; unread_cut = refl; losing_answer = refl; cut_answer = refl }
 
 pub worked_missing : WorkedMissing
 unfolding digits put_back mend visit step asking gather read pagein_from pagein page_at live_count next_free free_count fewest_live place free_on release release_old close_full move move_all clean open_next_rule with_open judged ending steps pageout free

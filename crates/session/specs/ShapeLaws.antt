@@ -24,5 +24,5 @@ abbrev pub refused : Model → Result Detail Fault × Model
 refused m = (Err (fault_of Log BadShape), m)
 
 pub record ShapeLaws : Type 0 where
-  pub made_first : (m : Model) (call : Call) → within m.tables.shape ≡ false → is_make call ≡ false → run_model m call ≡ refused m
-  pub made_once : (m : Model) (groups spares : ℕ) → within m.tables.shape ≡ true → run_model m (Make groups spares) ≡ refused m
+  pub made_first : (m : Model) (call : Call) → within m.log.tables.shape ≡ false → is_make call ≡ false → run_model m call ≡ refused m
+  pub made_once : (m : Model) (groups spares : ℕ) → within m.log.tables.shape ≡ true → run_model m (Make groups spares) ≡ refused m

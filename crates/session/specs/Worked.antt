@@ -1,13 +1,18 @@
 -- Two scripts that were worked out by hand, over five memory servers of three slots each: the listings that they have, the members that are missing, and what servers are asked.
-use Rattle.std.specs.Prelude.{◌≡◌, ◌++◌, ℕ, List, [], ◌∷◌, codes, length, map, negsuc, pos, replicate, take}
+use Rattle.std.specs.Prelude.{◌≡◌, ◌++◌, ℕ, List, [], ◌∷◌, Result, Ok, Err, codes, length, map, negsuc, pos, replicate, take}
 use Rattle.law.specs.Missing.{missing_set}
 use Rattle.memory.specs.Store.{made}
 use Rattle.page.specs.Pages.{page_of}
+use Rattle.page.specs.Refusals.{fault_of, on_line}
+use Rattle.page.specs.declared.faults.Layer.TheVariants.{Replay}
+use Rattle.page.specs.declared.faults.Refusal.TheVariants.{Full}
 use Rattle.parity_log.specs.Paging.{pageout}
 use Rattle.parity_log.specs.Rule.{Rule, give, ask, note}
-use Rattle.parity_log.specs.Tables.{unmade}
+use Rattle.parity_log.specs.LogState.{unmade_log}
 use Rattle.server.specs.Calls.{Call as ServerCall, to_put, to_get, to_free}
+use Rattle.replay.specs.Listing.{answer_of, halt_at}
 use Rattle.replay.specs.Replaying.{replayed}
+use Rattle.replay.specs.declared.listing.Halt.{Halt}
 use Rattle.session.specs.Calls.{Model, model, run_model}
 use Rattle.session.specs.Memories.{Listed, replay_over}
 use Rattle.session.specs.Model.{Row, asked, meanings}
@@ -16,7 +21,7 @@ abbrev pub memories : List (List ℕ)
 memories = replicate 5 (replicate 1536 0)
 
 -- a replay into a listing of so many zeros
-abbrev pub worked : List ℕ → ℕ → Listed (List ℕ)
+abbrev pub worked : List ℕ → ℕ → Listed (Result ℕ Halt) (List ℕ)
 worked script room = replay_over script memories (replicate room 0)
 
 -- falls, a page that is restored, a lost one, and a rebuild that fails
@@ -41,24 +46,46 @@ abbrev pub cleaning_listing : List ℕ
 cleaning_listing =
     codes "line,call,number,answer,detail\n2,make,3,done,4\n3,out,0,done,-\n4,out,1,done,-\n5,out,2,done,-\n6,out,3,done,-\n7,out,0,done,-\n8,out,1,done,-\n9,out,0,done,-\n10,out,1,done,-\n11,fall,2,done,-\n12,out,0,done,-\n13,in,2,done,3\n14,back,2,done,-\n15,rebuild,2,done,2/0\n16,fall,3,done,-\n17,in,0,done,9\n18,in,1,done,8\n19,free,2,done,-\n20,in,2,none,-\n"
 
--- In no bytes nothing runs. In 61 there is room for two lines, which have 47; the third would have 15.
+-- line 3 can't be read, and line 4 is not looked at
+abbrev pub unread_script : List ℕ
+unread_script = codes "call,number,value\nmake,3,-\nin,01,-\nout,0,10\n"
+
+abbrev pub unread_listing : List ℕ
+unread_listing = codes "line,call,number,answer,detail\n2,make,3,done,4\n3,-,-,unread,-\n"
+
+-- a replay that halts behind so many bytes, since the listing is full on a line of the script
+abbrev pub full_at : ℕ → ℕ → Result ℕ Halt
+full_at count line = Err (halt_at count (on_line line (fault_of Replay Full)))
+
+-- In no bytes nothing runs. In 61 there is room for two lines, which have 47; the third, of the script's line 3, would have 15.
 pub record WorkedReplays : Type 0 where
-  pub losing : (worked losing_script (length losing_listing)).answer ≡ pos (length losing_listing)
+  pub losing : (worked losing_script (length losing_listing)).outcome ≡ Ok (length losing_listing)
   pub losing_listed : (worked losing_script (length losing_listing)).listing ≡ losing_listing
   pub none_run : map (take 2) (worked losing_script 0).memories ≡ replicate 5 (0 ∷ 0 ∷ [])
   pub losing_left : map (take 2) (worked losing_script (length losing_listing)).memories ≡ (10 ∷ 11 ∷ []) ∷ (20 ∷ 21 ∷ []) ∷ (0 ∷ 0 ∷ []) ∷ (0 ∷ 0 ∷ []) ∷ (0 ∷ 0 ∷ []) ∷ []
-  pub cleaning : (worked cleaning_script (length cleaning_listing)).answer ≡ pos (length cleaning_listing)
+  pub cleaning : (worked cleaning_script (length cleaning_listing)).outcome ≡ Ok (length cleaning_listing)
   pub cleaning_listed : (worked cleaning_script (length cleaning_listing)).listing ≡ cleaning_listing
-  pub cut : (worked losing_script 61).answer ≡ negsuc 47
+  pub cut : (worked losing_script 61).outcome ≡ full_at 47 3
   pub cut_listed : (worked losing_script 61).listing ≡ take 47 losing_listing ++ replicate 14 0
+  -- the first line of a listing is the script's line 1, whether or not that can be read
+  pub headless : (worked losing_script 30).outcome ≡ full_at 0 1
+  pub unnamed : (worked [] 46).outcome ≡ Ok 46
+  pub unnamed_cut : (worked [] 45).outcome ≡ full_at 31 1
+  -- a line that can't be read ends a replay as done, unless its own line of the listing does not fit
+  pub unread : (worked unread_script 62).outcome ≡ Ok 62
+  pub unread_listed : (worked unread_script 62).listing ≡ unread_listing
+  pub unread_cut : (worked unread_script 61).outcome ≡ full_at 47 3
+  -- the outcomes as numbers
+  pub losing_answer : answer_of (worked losing_script (length losing_listing)).outcome ≡ pos (length losing_listing)
+  pub cut_answer : answer_of (worked losing_script 61).outcome ≡ negsuc 47
 
 -- the tables and servers that a script leaves
 abbrev pub left : List ℕ → Model
-left script = (replayed run_model script (model unmade (map (λ bytes. made bytes 0) memories)) (replicate 600 0)).runner
+left script = (replayed run_model script (model unmade_log (map (λ bytes. made bytes 0) memories)) (replicate 600 0)).runner
 
 -- the sets of the members that are missing then, of each of the three groups
 abbrev pub missing : List ℕ → List ℕ
-missing script = let m = left script in map (missing_set m.tables (meanings m.row)) (0 ∷ 1 ∷ 2 ∷ [])
+missing script = let m = left script in map (missing_set m.log.tables (meanings m.row)) (0 ∷ 1 ∷ 2 ∷ [])
 
 pub record WorkedMissing : Type 0 where
   -- none is where nothing is written yet
@@ -90,7 +117,7 @@ asks_of (note n rule) row = asks_of rule row
 
 -- what a pageout asks after a script
 abbrev pub pageout_asks : List ℕ → ℕ → ℕ → List Asked
-pageout_asks script page value = let m = left script in asks_of (pageout m.tables page (page_of value)) m.row
+pageout_asks script page value = let m = left script in asks_of (pageout m.log page (page_of value)) m.row
 
 abbrev pub freed : ℕ → List Asked
 freed g = (0, codes "free", g) ∷ (1, codes "free", g) ∷ (2, codes "free", g) ∷ (3, codes "free", g) ∷ (4, codes "free", g) ∷ []

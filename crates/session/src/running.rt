@@ -1,5 +1,6 @@
+ghost use Rattle.parity_log.specs.LogState.{unmade_log};
 ghost use Rattle.parity_log.specs.Rule.{Ends};
-ghost use Rattle.parity_log.specs.Tables.{unmade};
+ghost use Rattle.pager.specs.Moments.{log_state};
 ghost use Rattle.replay.specs.declared.script.Call.TheVariants.{In};
 ghost use Rattle.session.specs.Calls.{CallRuns, rebuild as rebuild_rule};
 ghost use Rattle.std.specs.Prelude.{◌≡◌};
@@ -19,7 +20,7 @@ impl<B: PullableBank> Session<B> {
     // A session whose pager is not made yet.
     pub fn new(bank: B) -> Session<B>
         ensures bank { result.pager.log.bank ≡ bank }
-        ensures tables { result.pager.log.ledger.tables ≡ unmade }
+        ensures log { log_state result.pager.log ≡ unmade_log }
     {
         let pager = Pager::new(bank);
         Session { pager }
@@ -36,8 +37,8 @@ impl<B: PullableBank> Session<B> {
 
     // Rebuilds a server, with a step for each group. No `?` stands between begin and close: the job would be let go.
     fn rebuild(&mut self, server: usize) -> Result<Detail, Fault>
-        ensures ran { Ends B.Bank.steps (rebuild_rule self.old.pager.log.ledger.tables server) self.old.pager.log.bank result self.new.pager.log.bank }
-        ensures tables { self.new.pager.log.ledger.tables ≡ self.old.pager.log.ledger.tables }
+        ensures ran { Ends B.Bank.steps (rebuild_rule (log_state self.old.pager.log) server) self.old.pager.log.bank result self.new.pager.log.bank }
+        ensures log { log_state self.new.pager.log ≡ log_state self.old.pager.log }
     {
         let mut job = self.pager.begin(server)?;
         for _ in 0..self.pager.groups() {

@@ -4,7 +4,7 @@ ghost use Rattle.parity_log.specs.Rebuilding.{begin as begin_rule, counts, step 
 ghost use Rattle.parity_log.specs.Rule.{Ends};
 ghost use Rattle.pager.specs.Admitted.{AdmittedJob};
 ghost use Rattle.pager.specs.Jobs.{progress_of};
-ghost use Rattle.pager.specs.Moments.{Turns, moment_of};
+ghost use Rattle.pager.specs.Moments.{Turns, log_state, moment_of};
 ghost use Rattle.pager.specs.Order.{Ordered};
 
 use crate::Pager;
@@ -21,7 +21,8 @@ impl<B: Bank> Log<B> {
         requires admitted { AdmittedJob self.old.ledger.tables job.progress }
         ensures order { Ordered B.Bank.count B.Bank.means self.new }
         ensures tables { self.new.ledger ≡ self.old.ledger }
-        ensures ran { Ends B.Bank.steps (step_rule self.old.ledger.tables job.progress) self.old.bank (stepped (Done tt) result.progress) self.new.bank }
+        ensures running { self.new.running ≡ self.old.running }
+        ensures ran { Ends B.Bank.steps (step_rule (log_state self.old) job.progress) self.old.bank (stepped (Done tt) result.progress) self.new.bank }
         ensures turn { Turns (moment_of B.Bank.count B.Bank.means self.old) (λ fs. steps job.progress (Done tt) result.progress fs) (moment_of B.Bank.count B.Bank.means self.new) }
     {
         self.visit_next(job)
@@ -52,7 +53,8 @@ impl<B: Bank> Pager<B> {
     // Visits one group for the job, or none past the last, and gives the job back.
     pub fn step(&mut self, job: RebuildJob) -> (RebuildJob, Result<(), Fault>)
         ensures tables { self.new.log.ledger ≡ self.old.log.ledger }
-        ensures ran { Ends B.Bank.steps (step_rule self.old.log.ledger.tables job.progress) self.old.log.bank (stepped result.1 result.0.progress) self.new.log.bank }
+        ensures running { self.new.log.running ≡ self.old.log.running }
+        ensures ran { Ends B.Bank.steps (step_rule (log_state self.old.log) job.progress) self.old.log.bank (stepped result.1 result.0.progress) self.new.log.bank }
         ensures turn { Turns (moment_of B.Bank.count B.Bank.means self.old.log) (λ fs. steps job.progress result.1 result.0.progress fs) (moment_of B.Bank.count B.Bank.means self.new.log) }
     {
         match self.log.ledger.tables.admit_job(job.progress) {

@@ -22,9 +22,10 @@ returns g c =
     let made = making_is v (bank.count b) (bank.means b) c.args.groups c.args.spares shape is c.capacity.result l.tables c.capacity.ensures new in
     record {
       bank = refl;
+      running = refl;
       made = made;
-      turn = record { servers = refl; goes = (made, refl) };
-      lawful = λ _. made_lawful bank.count bank.means b v c.args.groups c.args.spares shape is bank.steps bank.laws l new;
+      turn = record { servers = refl; goes = (made, refl, refl) };
+      lawful = λ _. made_lawful bank.count bank.means old c.args.self.now.ordered c.args.groups c.args.spares shape is bank.steps bank.laws l new;
     }
 
 -- what is made is in order
@@ -35,4 +36,4 @@ invariant_of-self g c =
     let shape = c.in-Some.shape in
     let can = decided_within old.ledger.tables (bank.count old.bank) (bank.means old.bank) c.args.groups c.args.spares shape c.in-Some.ensures in
     let few = subst Limited (sym c.new-self.ensures) (record { servers = (shape_bounds shape can).5; filled = omega arith }) in
-    ((few, tt), (made_ordered bank.count bank.means old.bank old.ledger.tables c.args.groups c.args.spares shape c.in-Some.ensures c.new-self.result few c.new-self.ensures, tt))
+    ((few, tt), (made_ordered bank.count bank.means old c.args.self.now.ordered c.args.groups c.args.spares shape c.in-Some.ensures c.new-self.result few c.new-self.ensures, tt))

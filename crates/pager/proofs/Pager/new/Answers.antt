@@ -1,4 +1,6 @@
+use Rattle.std.proofs.Common.{ap₂}
+use Rattle.parity_log.specs.LogState.{log_of}
 use Rattle.pager.proofs.Pager.new.Goals as goal
 
-pub returns-clause-tables : goal.returns-clause-tables
-returns-clause-tables g c = c.new-ledger.ensures
+pub returns-clause-log : goal.returns-clause-log
+returns-clause-log g c = ap₂ log_of c.new.ensures c.zero.ensures

@@ -1,4 +1,5 @@
 use Rattle.std.proofs.lemmas.Result.{err_from_is_err_and}
+use Rattle.pager.specs.Moments.{log_state}
 use Rattle.pager.proofs.CallWays.{pageout_refused}
 use Rattle.pager.proofs.Seen.{pageout_turn}
 use Rattle.pager.proofs.Pager.pageout.Goals as goal
@@ -9,7 +10,7 @@ returns-in_err-admit g c =
     let old = c.args.self.now.log in
     let r = c.from_residual.result in
     let p = err_from_is_err_and r c.from_residual.ensures.1 in
-    let run = pageout_refused bank.steps old.ledger.tables c.args.page old.bank c.args.bytes.now r _ p.0 p.1 p.2 c.in_err-admit.ensures in
+    let run = pageout_refused bank.steps (log_state old) c.args.page old.bank c.args.bytes.now r _ p.0 p.1 p.2 c.in_err-admit.ensures in
     record { ran = run; turn = pageout_turn bank.count bank.means bank.steps bank.laws old old c.args.page c.args.bytes.now r run }
 
 -- and otherwise what the call let in did

@@ -7,6 +7,6 @@ returns c =
     let before = c.args.listing.now in
     let whole = c.as_bytes.ensures.value ∙ c.deref.ensures.0 ∙ c.text.ensures in
     record {
-      answer = c.write_line.ensures.answer ∙ ap (count_after before c.args.count) whole;
+      answer = c.write_line.ensures.answer ∙ ap (count_after before c.args.count c.args.entry.now.line) whole;
       bytes = c.write_line.ensures.bytes ∙ ap (written before c.args.count) whole;
     }

@@ -1,9 +1,13 @@
-use Rattle.std.proofs.Common.{rules, w64, to_z, of_z, ◌≡◌}
-use Rattle.session.proofs.WholeLaws.{replay_lists}
+use Rattle.std.proofs.Common.{sym}
+use Rattle.replay.proofs.AlongLaws.{replay_along}
 use Rattle.session.proofs.memories.replay_bank.Goals as goal
 
-pub returns : goal.returns
-returns g c stores kept modelled =
-    let same : to_z w64 (of_z w64 c.replay-answer.result) ≡ c.replay-answer.result = search rules in
-    let lists = replay_lists (λ s. s.pager.log) _ _ _ _ _ stores kept modelled c.args.script.now c.new-session.result _ c.args.listing.now c.replay-answer.result c.replay-answer.new.runner c.replay-answer.new.listing c.new-session.ensures.tables c.new-session.ensures.bank c.replay-answer.ensures in
-    rw (same, c.into_bank.ensures) lists
+pub returns-clause-replayed : goal.returns-clause-replayed
+returns-clause-replayed g c = (
+  c.new-session.result.pager.log,
+  c.replay-outcome.new.runner.pager.log,
+  c.new-session.ensures.log,
+  c.new-session.ensures.bank,
+  sym c.into_bank.ensures,
+  replay_along _ _ (λ s. s.pager.log) (λ x call a y ran. ran) c.args.script.now c.new-session.result c.args.listing.now c.replay-outcome.result c.replay-outcome.new.runner c.replay-outcome.new.listing c.replay-outcome.ensures.replayed,
+)

@@ -4,8 +4,8 @@ use Rattle.memory.specs.Store.{made}
 use Rattle.session.specs.Memories.{listed, replay_on}
 use Rattle.session.proofs.memories.replay_over_five.Goals as goal
 
-pub returns : goal.returns
-returns c =
+pub returns-clause-replayed : goal.returns-clause-replayed
+returns-clause-replayed c =
     let old = c.args in
     let new = c.replay_on.new in
     let servers = store_of c.new-first.result ∷ store_of c.new-second.result ∷ store_of c.new-third.result ∷ store_of c.new-fourth.result ∷ store_of c.new-last.result ∷ [] in

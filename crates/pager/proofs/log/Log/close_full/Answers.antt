@@ -1,23 +1,27 @@
-use Rattle.std.proofs.Common.{sym, ◌∙◌}
+use Rattle.std.proofs.Common.{sym, ap₂, ◌∙◌}
+use Rattle.page.specs.Pages.{zeros}
+use Rattle.parity_log.specs.LogState.{log_of}
 use Rattle.parity_log.specs.Paging.{close_full, shut}
 use Rattle.parity_log.proofs.RuleLaws.{ends_as}
+use Rattle.pager.specs.Moments.{log_state}
 use Rattle.pager.proofs.PlacingLaws.{closed_now, open_still, closes, stays_open}
 use Rattle.pager.proofs.log.Log.close_full.Goals as goal
 
 pub returns-then-self-servers : goal.returns-then-self-servers
 returns-then-self-servers g c =
-    let v = c.args.self.now.ledger.tables in
+    let l = log_state c.args.self.now in
     let n = c.args.group in
     let full = c.if-self-servers.true in
     let steps = g.B.Bank.steps in
     let b = c.args.self.now.bank in
+    let after = ap₂ log_of c.shut.ensures c.zero-self.ensures in
     record {
-      tables = c.shut.ensures ∙ sym (closed_now v n full);
-      ran = ends_as steps (close_full v n) b c.put.new.self (shut v n) c.shut.new.self.tables (sym c.shut.ensures) (closes steps v n b c.put.new.self c.put.result full c.put.ensures);
+      log = after ∙ sym (closed_now l n full);
+      ran = ends_as steps (close_full l n) b c.put.new.self (log_of (shut l.tables n) zeros) _ (sym after) (closes steps l n b c.put.new.self c.put.result full c.put.ensures);
     }
 
 pub returns-else-self-servers : goal.returns-else-self-servers
 returns-else-self-servers g c =
-    let v = c.args.self.now.ledger.tables in
+    let l = log_state c.args.self.now in
     let n = c.args.group in
-    record { tables = sym (open_still v n c.if-self-servers.false); ran = stays_open g.B.Bank.steps v n c.args.self.now.bank c.args.self.now.bank c.if-self-servers.false }
+    record { log = sym (open_still l n c.if-self-servers.false); ran = stays_open g.B.Bank.steps l n c.args.self.now.bank c.args.self.now.bank c.if-self-servers.false }

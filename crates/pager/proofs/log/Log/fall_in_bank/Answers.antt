@@ -1,4 +1,5 @@
 use Rattle.std.proofs.Common.{refl}
+use Rattle.pager.specs.Moments.{log_state}
 use Rattle.pager.proofs.PullLaws.{falls_ordered, falls_turn}
 use Rattle.pager.proofs.log.Log.fall_in_bank.Goals as goal
 
@@ -11,7 +12,8 @@ returns g c =
     record {
       order = falls_ordered bank.count bank.means old _ refl c.args.server _ c.requires out.meets;
       tables = refl;
+      running = refl;
       falls = out.falls;
       meets = out.meets;
-      turn = falls_turn bank.count bank.means bank.steps bank.laws old.bank e old.ledger.tables c.args.server _ out.meets;
+      turn = falls_turn bank.count bank.means bank.steps bank.laws old.bank e (log_state old) c.args.server _ out.meets;
     }

@@ -4,6 +4,7 @@ use Rattle.std.proofs.lemmas.Nat.{pow-add}
 use Rattle.parity_log.specs.declared.records.GroupState.{GroupState}
 use Rattle.parity_log.specs.declared.records.GroupState.TheVariants.{Free, Open, Closed}
 use Rattle.parity_log.specs.Tables.{member_count_of, state_of}
+use Rattle.pager.specs.Moments.{log_state}
 use Rattle.pager.proofs.AskingLaws.{gather_begins, turn_skip, turn_ask, turns_end, weight_bound}
 use Rattle.pager.proofs.log.Log.gather.Goals as goal
 use Rattle.pager.proofs.log.Log.gather.Goals.{then-server-but, else-server-but}
@@ -14,7 +15,7 @@ members_few Open s f h = omega arith
 members_few Closed s f h = omega arith
 
 pub loop-server-init : goal.loop-server-init
-loop-server-init g c = (refl, omega arith, (λ _. omega arith), gather_begins g.B.Bank.steps c.args.self.now.bank c.args.self.now.ledger.tables c.args.group c.args.but _ _ c.member_count-count.ensures c.kept_page-sum.ensures)
+loop-server-init g c = (refl, refl, omega arith, (λ _. omega arith), gather_begins g.B.Bank.steps c.args.self.now.bank (log_state c.args.self.now) c.args.group c.args.but _ _ c.member_count-count.ensures c.kept_page-sum.ensures)
 
 pub overflow_add-missing : goal.overflow_add-missing
 overflow_add-missing g c =
@@ -22,7 +23,7 @@ overflow_add-missing g c =
     let k = c.loop-server.server in
     let one = c.ask_member-missing.ensures in
     let few : k ≤ v.shape.servers = omega (arith, members_few (state_of v c.args.group) v.shape.servers v.filled c.args.self.now.limited.filled, c.member_count-count.ensures, c.loop-server-test.true) in
-    let bound = weight_bound v.shape.servers k c.loop-server.missing one.0 c.args.self.now.limited.servers few (c.loop-server.invariant.2 few) in
+    let bound = weight_bound v.shape.servers k c.loop-server.missing one.0 c.args.self.now.limited.servers few (c.loop-server.invariant.3 few) in
     Fits-of_lt (omega (arith, one.3, bound.0))
 
 pub loop-server-preserved : goal.loop-server-preserved
@@ -35,11 +36,11 @@ loop-server-preserved g c =
     elim c.if-server-but.branch [
       | then-server-but w ↦
           let one = w.ask_member-missing.ensures in
-          let bound = weight_bound s k c.loop-server.missing one.0 c.args.self.now.limited.servers few (inv.2 few) in
+          let bound = weight_bound s k c.loop-server.missing one.0 c.args.self.now.limited.servers few (inv.3 few) in
           let e = w.missing-is ∙ ap (λ n. c.loop-server.missing + n) one.3 in
-          simp (w.self-is, w.sum-is) (inv.0, omega (arith, e, bound.0), (λ lt. omega (arith, e, bound.1 (omega arith))), simp w.missing-is (turn_ask g.B.Bank.steps _ _ _ s c.args.group c.args.but k _ _ _ inv.3 _ _ _ in_range w.if-server-but.true one))
+          simp (w.self-is, w.sum-is) (inv.0, inv.1, omega (arith, e, bound.0), (λ lt. omega (arith, e, bound.1 (omega arith))), simp w.missing-is (turn_ask g.B.Bank.steps _ _ _ s c.args.group c.args.but k _ _ _ inv.4 _ _ _ in_range w.if-server-but.true one))
       | else-server-but w ↦
-          simp (w.self-is, w.sum-is, w.missing-is) (inv.0, inv.1, (λ lt. omega (arith, inv.2 few, pow-add 2 k 1)), turn_skip g.B.Bank.steps _ _ _ s c.args.group c.args.but k _ _ _ inv.3 in_range w.if-server-but.false)
+          simp (w.self-is, w.sum-is, w.missing-is) (inv.0, inv.1, inv.2, (λ lt. omega (arith, inv.3 few, pow-add 2 k 1)), turn_skip g.B.Bank.steps _ _ _ s c.args.group c.args.but k _ _ _ inv.4 in_range w.if-server-but.false)
     ]
 
 pub returns-then-missing-eq0 : goal.returns-then-missing-eq0
@@ -47,8 +48,9 @@ returns-then-missing-eq0 g c =
     let inv = c.loop-server.invariant in
     record {
       tables = inv.0;
+      running = inv.1;
       few = tt;
-      ran = (_, turns_end g.B.Bank.steps _ _ _ c.args.self.now.ledger.tables.shape.servers c.args.group c.args.but c.loop-server.server _ _ _ inv.3 c.loop-server-test.false, (c.if-missing-eq0.true, refl));
+      ran = (_, turns_end g.B.Bank.steps _ _ _ c.args.self.now.ledger.tables.shape.servers c.args.group c.args.but c.loop-server.server _ _ _ inv.4 c.loop-server-test.false, (c.if-missing-eq0.true, refl));
     }
 
 pub returns-else-missing-eq0 : goal.returns-else-missing-eq0
@@ -56,6 +58,7 @@ returns-else-missing-eq0 g c =
     let inv = c.loop-server.invariant in
     record {
       tables = inv.0;
-      few = inv.1;
-      ran = (_, turns_end g.B.Bank.steps _ _ _ c.args.self.now.ledger.tables.shape.servers c.args.group c.args.but c.loop-server.server _ _ _ inv.3 c.loop-server-test.false, (refl, c.if-missing-eq0.false));
+      running = inv.1;
+      few = inv.2;
+      ran = (_, turns_end g.B.Bank.steps _ _ _ c.args.self.now.ledger.tables.shape.servers c.args.group c.args.but c.loop-server.server _ _ _ inv.4 c.loop-server-test.false, (refl, c.if-missing-eq0.false));
     }

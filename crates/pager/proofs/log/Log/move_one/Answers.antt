@@ -1,13 +1,14 @@
-use Rattle.std.proofs.Common.{is_ok, ◌+◌, sym, refl, ap, ◌∙◌, subst}
-use Rattle.parity_log.specs.declared.ledger.Ledger.{Ledger}
+use Rattle.std.proofs.Common.{◌+◌, sym, refl, ap, ◌∙◌, subst}
 use Rattle.parity_log.specs.declared.records.PageState.TheVariants.{Lost}
-use Rattle.parity_log.specs.declared.records.Tables.{Tables}
+use Rattle.parity_log.specs.LogState.{LogState, with_tables}
 use Rattle.parity_log.specs.Order.{Cleaning}
-use Rattle.parity_log.specs.Paging.{place, placed}
+use Rattle.parity_log.specs.Paging.{place, placed_log}
 use Rattle.parity_log.specs.Rule.{Ends}
 use Rattle.parity_log.specs.Tables.{page_at, with_page}
+use Rattle.pager.specs.Moments.{log_state}
 use Rattle.pager.specs.Places.{placed_as}
 use Rattle.parity_log.proofs.CleaningLaws.{clean_skip, clean_place, clean_lose}
+use Rattle.pager.proofs.Fitting.{kept_log}
 use Rattle.pager.proofs.CleaningWays.{place_fits, lose_fits, nobody_moves, one_moves, one_is_lost}
 use Rattle.pager.proofs.log.Log.move_one.Goals as goal
 
@@ -29,37 +30,39 @@ returns-in_default g c =
     record {
       cleaning = clean_skip v c.args.into c.args.from c.args.position c.requires.cleaning c.requires.position nobody;
       shape = refl;
-      ran = nobody_moves g.B.Bank.steps v c.args.into c.args.from c.args.position (page_at v.pages c.args.from c.args.position) b b nobody;
+      ran = nobody_moves g.B.Bank.steps (log_state c.args.self.now) c.args.into c.args.from c.args.position (page_at v.pages c.args.from c.args.position) b b nobody;
     }
 
 pub returns-in-Ok : goal.returns-in-Ok
 returns-in-Ok g c =
-    let v = c.args.self.now.ledger.tables in
+    let l = log_state c.args.self.now in
+    let v = l.tables in
     let steps = g.B.Bank.steps in
     let page = c.in-Some.page in
     let x = c.read.new.buffer in
     let here = sym c.page_at.ensures ∙ c.in-Some.is in
-    let same = ap (λ (l : Ledger). l.tables) c.in-Ok.ensures.tables in
+    let same = kept_log c.args.self.now c.read.new.self c.in-Ok.ensures.tables c.in-Ok.ensures.running in
     let put = c.place.ensures in
-    let is = put.tables ∙ ap (λ (w : Tables). placed w c.args.into page x) same in
-    let run = subst (λ (w : Tables). Ends steps (place w c.args.into page x) c.read.new.self.bank (placed_as (is_ok c.place.result) c.place.new.self.ledger.tables) c.place.new.self.bank) same put.ran in
-    let done = clean_place v c.args.into c.args.from c.args.position page x c.requires.cleaning c.requires.position here in
+    let is = put.log ∙ ap (λ (k : LogState). placed_log k c.args.into page x) same in
+    let run = subst (λ (k : LogState). Ends steps (place k c.args.into page x) c.read.new.self.bank (placed_as c.place.result (log_state c.place.new.self)) c.place.new.self.bank) same put.ran in
+    let done = clean_place v c.args.into c.args.from c.args.position page c.requires.cleaning c.requires.position here in
     record {
-      cleaning = subst (λ (w : Tables). Cleaning w c.args.into c.args.from (c.args.position + 1)) (sym is) done;
-      shape = ap (λ (w : Tables). w.shape) is;
-      ran = one_moves steps v c.args.into c.args.from c.args.position (page_at v.pages c.args.from c.args.position) c.args.self.now.bank _ page x _ _ _ here c.in-Ok.ensures.ran run;
+      cleaning = subst (λ (k : LogState). Cleaning k.tables c.args.into c.args.from (c.args.position + 1)) (sym is) done;
+      shape = ap (λ (k : LogState). k.tables.shape) is;
+      ran = one_moves steps l c.args.into c.args.from c.args.position (page_at v.pages c.args.from c.args.position) c.args.self.now.bank _ page x _ _ _ here c.in-Ok.ensures.ran run;
     }
 
 pub returns-in-Err : goal.returns-in-Err
 returns-in-Err g c =
-    let v = c.args.self.now.ledger.tables in
+    let l = log_state c.args.self.now in
+    let v = l.tables in
     let page = c.in-Some.page in
     let here = sym c.page_at.ensures ∙ c.in-Some.is in
-    let same = ap (λ (l : Ledger). l.tables) c.in-Err.ensures.tables in
-    let gone = c.set_page.ensures ∙ ap (λ (w : Tables). with_page w page (Lost c.args.from c.in-Err.missing)) same in
+    let same = kept_log c.args.self.now c.read.new.self c.in-Err.ensures.tables c.in-Err.ensures.running in
+    let gone = ap (with_tables (log_state c.read.new.self)) c.set_page.ensures ∙ ap (λ (k : LogState). with_tables k (with_page k.tables page (Lost c.args.from c.in-Err.missing))) same in
     let done = clean_lose v c.args.into c.args.from c.args.position page c.in-Err.missing c.requires.cleaning c.requires.position here in
     record {
-      cleaning = subst (λ (w : Tables). Cleaning w c.args.into c.args.from (c.args.position + 1)) (sym gone) done;
-      shape = ap (λ (w : Tables). w.shape) gone;
-      ran = one_is_lost g.B.Bank.steps v c.args.into c.args.from c.args.position (page_at v.pages c.args.from c.args.position) c.args.self.now.bank _ page c.in-Err.missing _ here c.in-Err.ensures.ran gone;
+      cleaning = subst (λ (k : LogState). Cleaning k.tables c.args.into c.args.from (c.args.position + 1)) (sym gone) done;
+      shape = ap (λ (k : LogState). k.tables.shape) gone;
+      ran = one_is_lost g.B.Bank.steps l c.args.into c.args.from c.args.position (page_at v.pages c.args.from c.args.position) c.args.self.now.bank _ page c.in-Err.missing _ here c.in-Err.ensures.ran gone;
     }

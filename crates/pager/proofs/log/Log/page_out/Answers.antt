@@ -1,16 +1,16 @@
-use Rattle.std.proofs.Common.{ℕ, ◌<◌, true, false, Ok, Option, sym, refl, ap, ◌∙◌, subst, arith}
+use Rattle.std.proofs.Common.{◌<◌, true, false, Ok, sym, refl, ◌∙◌, subst, arith}
 use Rattle.parity_log.specs.declared.records.Shape.{Shape}
-use Rattle.parity_log.specs.Rule.{Ends}
 use Rattle.parity_log.specs.Tables.{capacity, page_state}
-use Rattle.parity_log.specs.Paging.{release_old, released_old, told}
+use Rattle.parity_log.specs.Paging.{told}
 use Rattle.parity_log.proofs.Bounds.{capacity_fits}
 use Rattle.parity_log.proofs.ChangesLaws.{changes_place}
+use Rattle.pager.specs.Moments.{log_state}
 use Rattle.pager.specs.Places.{Fit}
-use Rattle.pager.proofs.PageoutWays.{left_fits, done_ends, paged, out_shape, out_there, out_settles}
+use Rattle.pager.proofs.PageoutWays.{left_fits, done_ends, paged, out_leaves}
 use Rattle.pager.proofs.log.Log.page_out.Goals as goal
 
 pub bounds-self-page : goal.bounds-self-page
-bounds-self-page g c = omega (arith, c.requires.page, capacity_fits c.args.self.now.ledger.tables.shape c.requires.settled.sound.shape)
+bounds-self-page g c = omega (arith, c.requires.page, capacity_fits c.args.self.now.ledger.tables.shape c.requires.settled.tables.sound.shape)
 
 pub place-done-requires : goal.place-done-requires
 place-done-requires g c =
@@ -29,59 +29,59 @@ release_old-requires g c =
 
 pub judge-requires : goal.judge-requires
 judge-requires g c =
-    let o = c.ready-group.new.self.ledger.tables in
-    let t = c.place-done.new.self.ledger.tables in
-    let w = c.release_old.new.self.ledger.tables in
-    let u = c.close_full.new.self.ledger.tables in
+    let o = log_state c.ready-group.new.self in
+    let t = log_state c.place-done.new.self in
+    let w = log_state c.release_old.new.self in
+    let u = log_state c.close_full.new.self in
     let p = c.args.page in
     let n = c.ready-group.result in
     let x = c.args.bytes.now in
     let r = c.ready-group.ensures in
     let below = subst (λ (y : Shape). p < capacity y) (sym r.shape) c.requires.page in
-    let is-w = c.release_old.ensures.tables ∙ ap (λ (l : Option ℕ). released_old l t) c.group.ensures in
-    let settled = out_settles o t w u n p x r.ready.settled r.ready.open_now below c.place-done.ensures.tables is-w c.close_full.ensures.tables in
-    let shape = out_shape o t w u n p x r.ready.settled r.ready.open_now below c.place-done.ensures.tables is-w c.close_full.ensures.tables in
-    let there = out_there o t w u n p x r.ready.settled r.ready.open_now below c.place-done.ensures.tables is-w c.close_full.ensures.tables in
-    record { settled = settled; page = subst (λ (y : Shape). p < capacity y) (sym shape) below; there = there }
+    let left = rw c.group.ensures at c.release_old.ensures in
+    let out = out_leaves o t w u n p x r.ready.settled r.ready.open_now below c.place-done.ensures.log left.log c.close_full.ensures.log in
+    record { settled = out.0; page = subst (λ (y : Shape). p < capacity y) (sym out.1) below; there = out.2 }
 
-pub returns-in-Ok : goal.returns-in-Ok
-returns-in-Ok g c =
-    let o = c.ready-group.new.self.ledger.tables in
-    let t = c.place-done.new.self.ledger.tables in
-    let w = c.release_old.new.self.ledger.tables in
-    let u = c.close_full.new.self.ledger.tables in
+pub returns-then-done : goal.returns-then-done
+returns-then-done g c =
+    let o = log_state c.ready-group.new.self in
+    let t = log_state c.place-done.new.self in
+    let w = log_state c.release_old.new.self in
+    let u = log_state c.close_full.new.self in
     let p = c.args.page in
     let n = c.ready-group.result in
     let x = c.args.bytes.now in
     let r = c.ready-group.ensures in
     let below = subst (λ (y : Shape). p < capacity y) (sym r.shape) c.requires.page in
-    let is-w = c.release_old.ensures.tables ∙ ap (λ (l : Option ℕ). released_old l t) c.group.ensures in
+    let left = rw c.group.ensures at c.release_old.ensures in
     let steps = g.B.Bank.steps in
-    let frees = subst (λ (l : Option ℕ). Ends steps (release_old l t) c.place-done.new.self.bank w c.release_old.new.self.bank) c.group.ensures c.release_old.ensures.ran in
+    let puts = rw c.if-done.true at c.place-done.ensures.ran in
     let e = c.close_full.new.self.bank in
+    let out = out_leaves o t w u n p x r.ready.settled r.ready.open_now below c.place-done.ensures.log left.log c.close_full.ensures.log in
     record {
-      settled = out_settles o t w u n p x r.ready.settled r.ready.open_now below c.place-done.ensures.tables is-w c.close_full.ensures.tables;
-      shape = out_shape o t w u n p x r.ready.settled r.ready.open_now below c.place-done.ensures.tables is-w c.close_full.ensures.tables ∙ r.shape;
-      ran = paged steps c.args.self.now.ledger.tables o t w u p n x true (told (Ok tt) u) c.args.self.now.bank _ _ _ e e r.ran c.in-Ok.ensures.ran frees c.close_full.ensures.ran (done_ends steps u p n o.filled e e);
+      settled = out.0;
+      shape = out.1 ∙ r.shape;
+      ran = paged steps (log_state c.args.self.now) o t w u p n x true (told (Ok tt) u) c.args.self.now.bank _ _ _ e e r.ran puts left.ran c.close_full.ensures.ran (done_ends steps u p n o.tables.filled e e);
     }
 
-pub returns-in-Err : goal.returns-in-Err
-returns-in-Err g c =
-    let o = c.ready-group.new.self.ledger.tables in
-    let t = c.place-done.new.self.ledger.tables in
-    let w = c.release_old.new.self.ledger.tables in
-    let u = c.close_full.new.self.ledger.tables in
+pub returns : goal.returns
+returns g c =
+    let o = log_state c.ready-group.new.self in
+    let t = log_state c.place-done.new.self in
+    let w = log_state c.release_old.new.self in
+    let u = log_state c.close_full.new.self in
     let p = c.args.page in
     let n = c.ready-group.result in
     let x = c.args.bytes.now in
     let r = c.ready-group.ensures in
     let below = subst (λ (y : Shape). p < capacity y) (sym r.shape) c.requires.page in
-    let is-w = c.release_old.ensures.tables ∙ ap (λ (l : Option ℕ). released_old l t) c.group.ensures in
+    let left = rw c.group.ensures at c.release_old.ensures in
     let steps = g.B.Bank.steps in
-    let frees = subst (λ (l : Option ℕ). Ends steps (release_old l t) c.place-done.new.self.bank w c.release_old.new.self.bank) c.group.ensures c.release_old.ensures.ran in
+    let puts = rw c.if-done.false at c.place-done.ensures.ran in
+    let out = out_leaves o t w u n p x r.ready.settled r.ready.open_now below c.place-done.ensures.log left.log c.close_full.ensures.log in
     let end = c.judge.ensures in
     record {
       settled = end.settled;
-      shape = end.shape ∙ out_shape o t w u n p x r.ready.settled r.ready.open_now below c.place-done.ensures.tables is-w c.close_full.ensures.tables ∙ r.shape;
-      ran = paged steps c.args.self.now.ledger.tables o t w u p n x false _ c.args.self.now.bank _ _ _ _ _ r.ran c.in-Err.ensures.ran frees c.close_full.ensures.ran end.ran;
+      shape = end.shape ∙ out.1 ∙ r.shape;
+      ran = paged steps (log_state c.args.self.now) o t w u p n x false _ c.args.self.now.bank _ _ _ _ _ r.ran puts left.ran c.close_full.ensures.ran end.ran;
     }

@@ -1,4 +1,4 @@
 use Rattle.session.proofs.running.Session.new.Goals as goal
 
-pub returns-clause-tables : goal.returns-clause-tables
-returns-clause-tables g c = c.new-pager.ensures.tables
+pub returns-clause-log : goal.returns-clause-log
+returns-clause-log g c = c.new-pager.ensures.log
