@@ -1,14 +1,27 @@
 //! Keeps standard input as pages on a mirror of two memory servers, lets one half fall and come back, and reads all of it back.
 #![tactic(auto)]
 
+ghost use Rattle.std.specs.Prelude.{◌≤◌, IfOk, length};
+
 use memory::{MOST_SLOTS, Memory};
 use mirror::{Half, Mirror};
 use page::{Fault, PAGE_SIZE};
 use server::PageServer;
-use std::fmt;
+use std::alloc::Global;
 use std::io::Read;
+use std::{fmt, io};
 
 const MOST_BYTES: usize = PAGE_SIZE * MOST_SLOTS;
+
+// Reads the input, and keeps no more of it than there is room for, whatever the reader gives. With room for a byte beside, the end is met without more memory.
+fn read_input<R: Read + Drop>(alloc: Global, input: R) -> io::Result<Vec<u8>>
+    ensures { IfOk result (λ bytes. length bytes.items ≤ 32768) }
+{
+    let mut bytes = Vec::with_capacity(alloc, MOST_BYTES + 1)?;
+    input.take(MOST_BYTES as u64).read_to_end(&mut bytes)?;
+    bytes.truncate(MOST_BYTES);
+    Ok(bytes)
+}
 
 // Puts the pages, each at the slot of its number.
 fn keep<S: PageServer>(server: &mut S, pages: &[[u8; PAGE_SIZE]]) -> Result<(), Fault> {
@@ -71,8 +84,8 @@ impl fmt::Display for Report {
 
 fn run(rt: &HostRuntime) -> anyhow::Result<Report> {
     let heap = rt.alloc();
-    let mut input = Vec::new(heap);
-    let bytes = rt.stdin().take(MOST_BYTES as u64).read_to_end(&mut input)?;
+    let mut input = read_input(heap, rt.stdin())?;
+    let bytes = input.len();
     input.resize(input.len().next_multiple_of(PAGE_SIZE), 0)?;
     let (pages, _) = input.as_chunks();
     let mut one = vec![in heap; 0u8; MOST_BYTES]?;

@@ -38,7 +38,7 @@ wanted_copies (to_put s r) a b same p q e f = cc
 wanted_copies (to_get s n) a b same p q e f = same p q e f
 wanted_copies (to_free s) a b same p q e f = not_held nothing p refl e
 
-joined_sound : (m n : Meaning) → Sound m → Sound n → (joined m n).up ≡ false → Empty (joined m n)
+pub joined_sound : (m n : Meaning) → Sound m → Sound n → (joined m n).up ≡ false → Empty (joined m n)
 joined_sound m n om on u k = let d = or_parts m.up n.up u in ap₂ first_of (om.down d.0 k) (on.down d.1 k)
 
 pub paired_sound : (m n : Meaning) → Sound m → Sound n → Paired m n → Sound (joined m n)

@@ -4,7 +4,8 @@
 ghost use Rattle.std.specs.Prelude.{◌≡◌, min};
 ghost use Rattle.mirror.specs.Joined.{Paired};
 ghost use Rattle.mirror.specs.Outliving.{OrderOutlives};
-ghost use Rattle.mirror.specs.Rule.{none_or_gone_of};
+ghost use Rattle.mirror.specs.Rule.{none_or_gone_of, refusal};
+ghost use Rattle.page.specs.declared.faults.Refusal.TheVariants.{Length};
 ghost use Rattle.mirror.specs.Sweep.{Swept};
 ghost use Rattle.server.specs.Meaning.{Empty};
 
@@ -34,6 +35,13 @@ fn empty<S: PageServer>(server: &mut S)
     for slot in 0..server.size() {
         let _ = server.free(slot);
     }
+}
+
+// A wrong length is told before the halves are asked for their sizes, which takes the longer the more mirrors stand in one another.
+fn refused_length(slot: usize) -> Fault
+    ensures { result ≡ refusal Length slot }
+{
+    Fault::new(Layer::Mirror, Refusal::Length).at_slot(slot)
 }
 
 // Why a get is refused that both halves refused.
@@ -78,6 +86,9 @@ impl<P: PageServer, Q: PageServer> PageServer for Mirror<P, Q> {
     }
 
     fn put(&mut self, slot: usize, page: &[u8]) -> Result<(), Fault> {
+        if page.len() != PAGE_SIZE {
+            return Err(refused_length(slot));
+        }
         admit(Layer::Mirror, self.size(), slot, page.len())?;
         let one = self.first.put(slot, page);
         let two = self.second.put(slot, page);
@@ -86,6 +97,9 @@ impl<P: PageServer, Q: PageServer> PageServer for Mirror<P, Q> {
     }
 
     fn get(&mut self, slot: usize, buffer: &mut [u8]) -> Result<(), Fault> {
+        if buffer.len() != PAGE_SIZE {
+            return Err(refused_length(slot));
+        }
         admit(Layer::Mirror, self.size(), slot, buffer.len())?;
         let Err(one) = self.first.get(slot, buffer) else {
             return Ok(());

@@ -6,6 +6,7 @@ use Rattle.server.specs.Meaning.{Meaning}
 use Rattle.parity_log.specs.declared.ledger.Ledger.{Ledger}
 use Rattle.parity_log.specs.declared.records.Shape.{Shape}
 use Rattle.parity_log.specs.declared.records.Tables.{Tables}
+use Rattle.parity_log.specs.Linked.{Linked}
 use Rattle.parity_log.specs.LogState.{LogState, log_of}
 use Rattle.parity_log.specs.Order.{Limited, Order}
 use Rattle.parity_log.specs.Tables.{within, accepts, capacity, initial}
@@ -63,8 +64,8 @@ module _ {B : Type 0} (count : B → ℕ) (means : B → ℕ → Meaning) (p : L
   can_be : within s ≡ true
   can_be = decided_within p.ledger.tables (count p.bank) (means p.bank) g q s e
 
-  pub made_ordered : (l : Ledger) (few : Limited l.tables) → l.tables ≡ initial s → Ordered count means (record { running = p.running; ledger = l; bank = p.bank; limited = few })
-  made_ordered l few is = record {
+  pub made_ordered : (l : Ledger) (few : Limited l.tables) (linked : Linked l) → l.tables ≡ initial s → Ordered count means (record { running = p.running; ledger = l; bank = p.bank; limited = few; linked = linked })
+  made_ordered l few linked is = record {
     log = subst Order (sym (made_log l is)) (record { made = λ _. initial_log_settled s can_be; not_made = λ cannot. absurd (true≢false (sym can_be ∙ cannot)) });
     fitted = λ _. subst (λ (t : Tables). Fitted count means t.shape p.bank) (sym is) (decided_fitted count means p.bank p.ledger.tables g q s e);
   }

@@ -1,4 +1,5 @@
 ghost use Rattle.parity_log.specs.Order.{Limited};
+ghost use Rattle.parity_log.specs.Linked.{Linked};
 
 use page::Page;
 use parity_log::Ledger;
@@ -10,4 +11,5 @@ pub(crate) struct Log<B> {
     pub(crate) ledger: Ledger,
     pub(crate) bank: B,
     ghost limited: { Limited ledger.tables },
+    pub ghost linked: { Linked ledger },
 }

@@ -1,12 +1,15 @@
 //! Pages standard input out through a pager over five memory servers, one of which is down, and reads it back.
 #![tactic(auto)]
 
+ghost use Rattle.std.specs.Prelude.{◌≤◌, IfOk, length};
+
 use bank::{Bank, End, Pair};
 use memory::Memory;
 use page::{Fault, PAGE_SIZE, Page};
 use pager::Pager;
-use std::fmt;
+use std::alloc::Global;
 use std::io::Read;
+use std::{fmt, io};
 
 const GROUPS: usize = 8;
 
@@ -14,9 +17,19 @@ const SPARES: usize = 2;
 
 const MEMORY: usize = PAGE_SIZE * GROUPS;
 
-const MOST_BYTES: u64 = 12288;
+const MOST_BYTES: usize = 12288;
 
 const ROUNDS: u8 = 3;
+
+// Reads the input, and keeps no more of it than there is room for, whatever the reader gives. With room for a byte beside, the end is met without more memory.
+fn read_input<R: Read + Drop>(alloc: Global, input: R) -> io::Result<Vec<u8>>
+    ensures { IfOk result (λ bytes. length bytes.items ≤ 12288) }
+{
+    let mut bytes = Vec::with_capacity(alloc, MOST_BYTES + 1)?;
+    input.take(MOST_BYTES as u64).read_to_end(&mut bytes)?;
+    bytes.truncate(MOST_BYTES);
+    Ok(bytes)
+}
 
 // Pages out a test page for each number.
 fn page_out_tests<B: Bank>(pager: &mut Pager<B>, pages: usize, value: u8) -> Result<(), Fault> {
@@ -112,8 +125,7 @@ fn over_five(pages: &[[u8; PAGE_SIZE]]) -> Result<Report, Fault> {
 }
 
 fn run(rt: &HostRuntime) -> anyhow::Result<Report> {
-    let mut input = Vec::new(rt.alloc());
-    rt.stdin().take(MOST_BYTES).read_to_end(&mut input)?;
+    let mut input = read_input(rt.alloc(), rt.stdin())?;
     input.resize(input.len().next_multiple_of(PAGE_SIZE), 0)?;
     let (pages, _) = input.as_chunks();
     let report = over_five(pages)?;

@@ -1,4 +1,5 @@
 pub mod Tables
+pub mod Linked
 pub mod LogState
 pub mod Choices
 pub mod Rule

@@ -1,5 +1,6 @@
 ghost use Rattle.std.specs.Prelude.{◌≡◌, ◌+◌, ◌%◌, ◌<◌, ◌≤◌, Some as Chosen};
 ghost use Rattle.parity_log.specs.Choices.{LastWithin, fewest_live, free_count, next_free, open_group, start};
+ghost use Rattle.parity_log.specs.Linked.{Linked};
 ghost use Rattle.parity_log.specs.Tables.{is_closed, is_free, live, state_of};
 
 use crate::ledger::Ledger;
@@ -83,6 +84,7 @@ impl Ledger {
     pub fn fewest_live(&self) -> Option<usize>
         requires groups { self.now.tables.shape.groups ≤ 32 }
         requires servers { self.now.tables.shape.servers ≤ 8 }
+        requires linked { Linked self.now }
         ensures { result ≡ fewest_live self.now.tables }
     {
         (0..self.tables.shape.groups)

@@ -1,5 +1,6 @@
 ghost use Rattle.std.specs.Prelude.{◌≡◌, ◌<◌, ◌≤◌};
-ghost use Rattle.parity_log.specs.Owners.{Changes, Tied};
+ghost use Rattle.parity_log.specs.Linked.{Linked};
+ghost use Rattle.parity_log.specs.Owners.{Changes};
 ghost use Rattle.parity_log.specs.Paging.{grown, opened, shut, unused};
 ghost use Rattle.parity_log.specs.Tables.{initial, live, page_at, with_page, with_state};
 ghost use Rattle.parity_log.specs.declared.records.GroupState.TheVariants.{Free};
@@ -7,18 +8,18 @@ ghost use Rattle.parity_log.specs.declared.records.GroupState.TheVariants.{Free}
 use crate::owners::Owners;
 use crate::records::{GroupState, MOST_GROUPS, MOST_PAGES, PageState, Shape, Tables};
 
-// The tables, and beside them who is out at each position, which the tables say too.
+// The tables, and beside them who is out at each position, which the tables of a linked ledger say too.
 #[derive(Clone, Copy)]
 pub struct Ledger {
     pub tables: Tables,
     owners: Owners,
-    pub ghost linked: { Tied tables.pages owners.places },
 }
 
 impl Ledger {
     // The tables of a pager just made.
     pub fn new(shape: Shape) -> Ledger
-        ensures { result.tables ≡ initial shape }
+        ensures tables { result.tables ≡ initial shape }
+        ensures linked { Linked result }
     {
         let tables = Tables {
             shape,
@@ -37,6 +38,7 @@ impl Ledger {
     pub fn page_at(&self, group: usize, position: usize) -> Option<usize>
         requires group { group < 32 }
         requires position { position < 8 }
+        requires linked { Linked self.now }
         ensures { result ≡ page_at self.now.tables.pages group position }
     {
         self.owners.at(group, position)
@@ -44,8 +46,10 @@ impl Ledger {
 
     // Changes where a page is; its new position is nobody else's.
     pub fn set_page(&mut self, page: usize, state: PageState)
-        requires { Changes self.old.tables page state }
-        ensures { self.new.tables ≡ with_page self.old.tables page state }
+        requires changes { Changes self.old.tables page state }
+        requires linked { Linked self.old }
+        ensures tables { self.new.tables ≡ with_page self.old.tables page state }
+        ensures linked { Linked self.new }
     {
         let old = self.tables.pages[page];
         self.owners.rename(old, None);
@@ -57,6 +61,7 @@ impl Ledger {
     pub fn live(&self, group: usize) -> usize
         requires group { group < 32 }
         requires servers { self.now.tables.shape.servers ≤ 8 }
+        requires linked { Linked self.now }
         ensures { result ≡ live self.now.tables group }
     {
         let mut live = 0;
@@ -73,6 +78,7 @@ impl Ledger {
     pub fn unused(&self, group: usize) -> bool
         requires group { group < 32 }
         requires servers { self.now.tables.shape.servers ≤ 8 }
+        requires linked { Linked self.now }
         ensures { result ≡ unused self.now.tables group }
     {
         self.tables.is_closed(group) && self.live(group) == 0
@@ -80,14 +86,16 @@ impl Ledger {
 
     pub fn free_group(&mut self, group: usize)
         requires { group < 32 }
-        ensures { self.new.tables ≡ with_state self.old.tables group Free }
+        ensures tables { self.new.tables ≡ with_state self.old.tables group Free }
+        ensures linked { Linked self.old → Linked self.new }
     {
         self.tables.states[group] = GroupState::Free;
     }
 
     pub fn open(&mut self, group: usize)
         requires { group < 32 }
-        ensures { self.new.tables ≡ opened self.old.tables group }
+        ensures tables { self.new.tables ≡ opened self.old.tables group }
+        ensures linked { Linked self.old → Linked self.new }
     {
         self.tables.states[group] = GroupState::Open;
         self.tables.last = Some(group);
@@ -96,7 +104,8 @@ impl Ledger {
     // The open group is closed.
     pub fn shut(&mut self, group: usize)
         requires { group < 32 }
-        ensures { self.new.tables ≡ shut self.old.tables group }
+        ensures tables { self.new.tables ≡ shut self.old.tables group }
+        ensures linked { Linked self.old → Linked self.new }
     {
         self.tables.states[group] = GroupState::Closed;
         self.tables.filled = 0;
@@ -105,7 +114,8 @@ impl Ledger {
     // One position more of the open group is filled.
     pub fn fill_next(&mut self)
         requires { self.old.tables.filled < 8 }
-        ensures { self.new.tables ≡ grown self.old.tables }
+        ensures tables { self.new.tables ≡ grown self.old.tables }
+        ensures linked { Linked self.old → Linked self.new }
     {
         self.tables.filled += 1;
     }

@@ -18,7 +18,7 @@ returns g c =
     let shape = c.in-Some.shape in
     let is = c.in-Some.ensures in
     let l = c.new-self.result in
-    let new = c.new-self.ensures in
+    let new = c.new-self.ensures.tables in
     let made = making_is v (bank.count b) (bank.means b) c.args.groups c.args.spares shape is c.capacity.result l.tables c.capacity.ensures new in
     record {
       bank = refl;
@@ -35,5 +35,5 @@ invariant_of-self g c =
     let old = c.args.self.now.log in
     let shape = c.in-Some.shape in
     let can = decided_within old.ledger.tables (bank.count old.bank) (bank.means old.bank) c.args.groups c.args.spares shape c.in-Some.ensures in
-    let few = subst Limited (sym c.new-self.ensures) (record { servers = (shape_bounds shape can).5; filled = omega arith }) in
-    ((few, tt), (made_ordered bank.count bank.means old c.args.self.now.ordered c.args.groups c.args.spares shape c.in-Some.ensures c.new-self.result few c.new-self.ensures, tt))
+    let few = subst Limited (sym c.new-self.ensures.tables) (record { servers = (shape_bounds shape can).5; filled = omega arith }) in
+    ((few, (c.new-self.ensures.linked, tt)), (made_ordered bank.count bank.means old c.args.self.now.ordered c.args.groups c.args.spares shape c.in-Some.ensures c.new-self.result few c.new-self.ensures.linked c.new-self.ensures.tables, tt))

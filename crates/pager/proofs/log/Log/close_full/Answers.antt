@@ -14,7 +14,7 @@ returns-then-self-servers g c =
     let full = c.if-self-servers.true in
     let steps = g.B.Bank.steps in
     let b = c.args.self.now.bank in
-    let after = ap₂ log_of c.shut.ensures c.zero-self.ensures in
+    let after = ap₂ log_of c.shut.ensures.tables c.zero-self.ensures in
     record {
       log = after ∙ sym (closed_now l n full);
       ran = ends_as steps (close_full l n) b c.put.new.self (log_of (shut l.tables n) zeros) _ (sym after) (closes steps l n b c.put.new.self c.put.result full c.put.ensures);

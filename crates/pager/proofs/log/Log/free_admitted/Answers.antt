@@ -19,8 +19,8 @@ bounds-self-page g c =
     let a = admitted v c.args.page 512 c.requires.admitted in
     omega (arith, a.1, capacity_fits v.shape a.0)
 
-pub set_page-requires : goal.set_page-requires
-set_page-requires g c =
+pub set_page-requires-clause-changes : goal.set_page-requires-clause-changes
+set_page-requires-clause-changes g c =
     let v = c.args.self.now.ledger.tables in
     let a = admitted v c.args.page 512 c.requires.admitted in
     changes_drop c.args.self.now.ledger.tables c.args.page (c.requires.order.log.made a.0).tables.sound a.1
@@ -36,8 +36,8 @@ returns g c =
     let m = log_state now in
     let a = admitted v c.args.page 512 c.requires.admitted in
     let out = rw c.group.ensures at c.release_old.ensures in
-    let left = free_settles l m t c.args.page (c.requires.order.log.made a.0) a.1 c.set_page.ensures out.log in
-    let run = subst (λ (y : Tables). Ends bank.steps (release_old (group_of (page_state v c.args.page)) (with_tables l y)) old.bank m now.bank) c.set_page.ensures out.ran in
+    let left = free_settles l m t c.args.page (c.requires.order.log.made a.0) a.1 c.set_page.ensures.tables out.log in
+    let run = subst (λ (y : Tables). Ends bank.steps (release_old (group_of (page_state v c.args.page)) (with_tables l y)) old.bank m now.bank) c.set_page.ensures.tables out.ran in
     let all = free_let_in bank.steps l c.args.page old.bank m now.bank c.requires.admitted run in
     record {
       order = ends_ordered bank.count bank.means bank.steps bank.laws old now _ _ c.requires.order left.1 (settled_order m left.0) all;

@@ -30,8 +30,8 @@ returns-in_default g c =
       ran = ends_as g.B.Bank.steps (ending l c.args.page c.args.group c.args.position false) c.args.self.now.bank c.gather.new.self.bank (told (Ok tt) l) _ (ap (told (Ok tt)) (sym same)) run;
     }
 
-pub set_page-requires : goal.set_page-requires
-set_page-requires g c =
+pub set_page-requires-clause-changes : goal.set_page-requires-clause-changes
+set_page-requires-clause-changes g c =
     let same = ap (λ (l : Ledger). l.tables) c.in-Err.ensures.tables in
     subst (λ (w : Tables). Changes w c.args.page (Lost c.args.group (c.in-Err.others + c.weight.result))) (sym same) (changes_lose c.args.self.now.ledger.tables c.args.page c.args.group _ c.requires.settled.tables.sound c.requires.page)
 
@@ -52,7 +52,7 @@ returns g c =
     let out = c.release_old.ensures in
     let t = c.set_page.new.self.tables in
     let same = kept_log c.args.self.now c.gather.new.self asked.tables asked.running in
-    let marked = c.set_page.ensures ∙ ap (λ (y : Ledger). with_page y.tables p (Lost n s)) asked.tables in
+    let marked = c.set_page.ensures.tables ∙ ap (λ (y : Ledger). with_page y.tables p (Lost n s)) asked.tables in
     let is-k = out.log ∙ ap (λ (y : LogState). with_tables y (released_old (Some n) t)) same in
     let left = lost_settles l k t p n i s c.requires.settled c.requires.page c.requires.there marked is-k in
     let rel = subst (λ (y : Tables). Ends steps (release_old (Some n) (with_tables l y)) m k e) marked (subst (λ (y : LogState). Ends steps (release_old (Some n) (with_tables y t)) m k e) same out.ran) in

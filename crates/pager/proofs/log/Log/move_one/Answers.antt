@@ -18,8 +18,8 @@ place-requires g c =
     let r = place_fits v c.args.into c.args.from c.args.position c.in-Some.page c.requires.cleaning c.requires.position (sym c.page_at.ensures ∙ c.in-Some.is) in
     rw c.read.ensures.tables (record { room = r.0; changes = r.1 })
 
-pub set_page-requires : goal.set_page-requires
-set_page-requires g c =
+pub set_page-requires-clause-changes : goal.set_page-requires-clause-changes
+set_page-requires-clause-changes g c =
     rw c.read.ensures.tables (lose_fits c.args.self.now.ledger.tables c.args.into c.args.from c.args.position c.in-Some.page c.requires.cleaning c.requires.position (sym c.page_at.ensures ∙ c.in-Some.is) c.in-Err.missing)
 
 pub returns-in_default : goal.returns-in_default
@@ -59,7 +59,7 @@ returns-in-Err g c =
     let page = c.in-Some.page in
     let here = sym c.page_at.ensures ∙ c.in-Some.is in
     let same = kept_log c.args.self.now c.read.new.self c.in-Err.ensures.tables c.in-Err.ensures.running in
-    let gone = ap (with_tables (log_state c.read.new.self)) c.set_page.ensures ∙ ap (λ (k : LogState). with_tables k (with_page k.tables page (Lost c.args.from c.in-Err.missing))) same in
+    let gone = ap (with_tables (log_state c.read.new.self)) c.set_page.ensures.tables ∙ ap (λ (k : LogState). with_tables k (with_page k.tables page (Lost c.args.from c.in-Err.missing))) same in
     let done = clean_lose v c.args.into c.args.from c.args.position page c.in-Err.missing c.requires.cleaning c.requires.position here in
     record {
       cleaning = subst (λ (k : LogState). Cleaning k.tables c.args.into c.args.from (c.args.position + 1)) (sym gone) done;

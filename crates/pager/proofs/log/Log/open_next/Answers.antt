@@ -25,7 +25,7 @@ returns-then-free_count-gt1 g c =
     let n = c.next_free-group.result in
     let more : 1 < free_count v = subst (λ k. 1 < k) c.free_count.ensures c.if-free_count-gt1.true in
     let r = open_next v n c.requires.settled.tables c.requires.none_open c.next_free-group.ensures more in
-    let now = c.open.ensures in
+    let now = c.open.ensures.tables in
     record {
       ready = subst (λ (w : Tables). Ready w n) (sym now) (record { settled = r.0; open_now = r.1 });
       shape = ap (λ (w : Tables). w.shape) now;
@@ -44,7 +44,7 @@ clean-requires g c =
     let n = c.next_free-group.result in
     let one : free_count v ≤ 1 = subst (λ k. k ≤ 1) c.free_count.ensures c.if-free_count-gt1.false in
     let r = last_opened v n c.in-Some.from c.fewest_live-fewest.result c.requires.settled.tables c.requires.none_open c.next_free-group.ensures one c.fewest_live-fewest.ensures c.in-Some.is in
-    subst (λ (w : Tables). Cleaning w n c.in-Some.from 0) (sym c.open-2.ensures) r.1
+    subst (λ (w : Tables). Cleaning w n c.in-Some.from 0) (sym c.open-2.ensures.tables) r.1
 
 pub returns-in-Some : goal.returns-in-Some
 returns-in-Some g c =
@@ -55,7 +55,7 @@ returns-in-Some g c =
     let steps = g.B.Bank.steps in
     let one : free_count v ≤ 1 = subst (λ k. k ≤ 1) c.free_count.ensures c.if-free_count-gt1.false in
     let out = c.clean.ensures in
-    let now = c.open-2.ensures in
+    let now = c.open-2.ensures.tables in
     let few = sym c.fewest_live-fewest.ensures ∙ c.in-Some.is in
     let run = subst (λ (w : Tables). Ends steps (clean (with_tables l w) n (Some c.in-Some.from)) b (log_state c.clean.new.self) c.clean.new.self.bank) now out.ran in
     record {

@@ -13,7 +13,7 @@ returns g c =
     let x = c.args.bytes.now in
     let b = c.args.self.now.bank in
     let steps = g.B.Bank.steps in
-    let after = ap₂ log_of (c.fill_next.ensures ∙ ap grown c.set_page.ensures) c.add.ensures in
+    let after = ap₂ log_of (c.fill_next.ensures.tables ∙ ap grown c.set_page.ensures.tables) c.add.ensures in
     record {
       log = after;
       ran = ends_as steps (place l c.args.group c.args.page x) b c.put.new.self _ _ (ap₂ placed_as (sym c.is_ok-done.ensures.value) (sym after)) (places steps l c.args.group b c.put.new.self c.args.page x c.put.result c.put.ensures);

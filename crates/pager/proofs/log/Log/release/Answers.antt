@@ -8,5 +8,5 @@ pub returns : goal.returns
 returns g c =
     let l = log_state c.args.self.now in
     let m = with_tables l c.free_group.new.self.tables in
-    let is = ap (with_tables l) c.free_group.ensures in
+    let is = ap (with_tables l) c.free_group.ensures.tables in
     record { log = is; ran = releases g.B.Bank.steps l c.args.self.now.bank c.free_slots.new.bank c.args.group m is (c.free_slots.ensures m) }
